@@ -1,0 +1,15 @@
+pub mod Steps
+pub mod Masks
+pub mod Fronts
+pub mod Joins
+pub mod Placed
+pub mod Reading
+pub mod Writing
+pub mod Unique
+pub mod Recovered
+pub mod Heads
+pub mod Answered
+pub mod Plans
+pub mod Prefixes
+pub mod Backwards
+pub mod Stowed

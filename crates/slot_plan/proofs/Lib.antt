@@ -1,0 +1,5 @@
+pub mod Units
+pub mod Located
+pub mod Checked
+pub mod Carried
+pub mod Counted
