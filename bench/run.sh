@@ -1,5 +1,6 @@
 #!/bin/sh
-# Times the outer code beside libfec and prints a table; see outer_code.c.
+# Times the outer code and whole super-frames beside libfec and prints a table for each;
+# see outer_code.c and super_frame.c.
 # Needs a C compiler and libfec with its header (Debian: libfec-dev). Run it on an idle machine.
 #
 #     run.sh [ARCHIVE...]
@@ -15,5 +16,8 @@ fi
 scratch=$(mktemp -d)
 trap 'rm -rf "$scratch"' EXIT
 
-${CC:-cc} -std=c11 -O2 -Wall -Wextra -o "$scratch/outer_code" "$top/bench/outer_code.c" "$@" -lfec
-"$scratch/outer_code"
+for name in outer_code super_frame; do
+    ${CC:-cc} -std=c11 -O2 -Wall -Wextra -o "$scratch/$name" "$top/bench/$name.c" "$@" -lfec
+    echo "$name"
+    "$scratch/$name"
+done

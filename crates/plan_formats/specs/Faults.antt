@@ -16,6 +16,13 @@ file-number Version = 2
 file-number Size = 3
 file-number (Rule fault) = plan.number fault
 
+-- the line or the slot at fault, 0 where it is no single one
+abbrev pub file-place : FileFault → ℕ
+file-place Mark = 0
+file-place Version = 0
+file-place Size = 0
+file-place (Rule fault) = plan.place fault
+
 -- checks go by number; those of the plan itself come last, in their own order
 abbrev pub file-order : FileFault → ℕ
 file-order Mark = 100

@@ -29,7 +29,7 @@ tmcc-fields order f = (5, order) ∷ body tmcc-widths f
 pub record Plan-file (bytes : List ℕ) (f : Fields) : Type 0 where
   pub shaped : Shaped f
   pub room : f .slots ≤ 48
-  pub beyond : (slot : ℕ) → f .slots ≤ slot → getD (f .streams) slot 0 ≡ 0
+  pub beyond : (index : ℕ) → f .slots ≤ index → getD (f .streams) index 0 ≡ 0
   pub holds : Holds bytes (file-fields f)
 
 -- The bytes are the TMCC data of this order of change and these fields, for a frame of so many slots.

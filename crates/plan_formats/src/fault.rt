@@ -1,6 +1,6 @@
 // Why bytes are no plan file.
 ghost use mathlib.Core.Path.{_≡_};
-ghost use Rattle.plan_formats.specs.Faults.{file-number};
+ghost use Rattle.plan_formats.specs.Faults.{file-number, file-place};
 ghost use Rattle.plan_formats.specs.declared.fault.FileFault.the-variants.{Rule};
 use slot_plan::PlanFault;
 use slot_plan::PlanFaultDebug;
@@ -36,6 +36,16 @@ impl FileFault {
             FileFault::Version => 2,
             FileFault::Size => 3,
             FileFault::Rule(fault) => fault.number(),
+        }
+    }
+
+    // The line or the slot at fault, or 0 where the fault is of no single one.
+    pub fn place(self) -> u8
+        ensures { λ r. ⌜ r ≡ file-place self ⌝ }
+    {
+        match self {
+            FileFault::Rule(fault) => fault.place(),
+            _ => 0,
         }
     }
 }

@@ -1,7 +1,7 @@
 // The station's plan file.
 ghost use mathlib.Core.Path.{_≡_};
 ghost use Prim.Native.Nat.{ℕ, _+_, _*_, _≤_, _<_};
-ghost use lib.ListN.{length, getD};
+ghost use lib.ListN.{length, getD, take, drop};
 ghost use Rattle.std.specs.Orderings.{Decides};
 ghost use Rattle.std.specs.Of.Vec.{vec-items};
 ghost use Rattle.std.specs.Results.{Cases};
@@ -19,6 +19,7 @@ use crate::body::write_body;
 use crate::fault::FileFault;
 use crate::fault::FileFaultFromPlanFault;
 use slot_plan::Fields;
+use slot_plan::MOST_SLOTS;
 use slot_plan::Plan;
 use std::alloc::AllocError;
 use std::alloc::Global;
@@ -30,9 +31,6 @@ const VERSION: u16 = 1;
 
 // How many bytes the mark, the version and the number of slots take.
 const HEAD: usize = 6;
-
-// The most slots that a frame can have.
-const MOST_SLOTS: u8 = 48;
 
 // How many bytes a plan file has besides its stream numbers.
 const FIXED: usize = 39;
@@ -107,10 +105,23 @@ fn write_file(bytes: &mut [u8], fields: &Fields)
     write_body(bytes, HEAD * 8, &widths(fields.slots), fields);
 }
 
+// Writes the plan's file into the first of 87 bytes, leaves the bytes beyond it, and answers its length.
+pub fn write_plan_into(plan: &Plan, out: &mut [u8; 87]) -> usize
+    ensures len { λ r. ⌜ r ≡ 39 + now (plan .entry) .fields .slots ⌝ }
+    ensures file { λ r. ⌜ Plan-file (take r (now (out .exit))) (now (plan .entry) .fields) ⌝ }
+    ensures rest { λ r. ⌜ drop r (now (out .exit)) ≡ drop r (now (out .entry)) ⌝ }
+{
+    let fields = plan.fields();
+    let len = FIXED + plan.slots() as usize;
+    write_file(&mut out[0..len], fields);
+    len
+}
+
 // The plan's file, which reads back as the same plan.
 pub fn write_plan(heap: Global, plan: &Plan) -> Result<Vec<u8>, AllocError>
     ensures file { λ r. ⌜ made r (λ v. Plan-file (vec-items v) (now (plan .entry) .fields)) ⌝ }
     ensures back { λ r. ⌜ made r (λ v. File-reads-back (vec-items v) (now (plan .entry) .fields)) ⌝ }
+    ensures only { λ r. ⌜ made r (λ v. Bytes (vec-items v) × Only-file (vec-items v) (now (plan .entry) .fields)) ⌝ }
 {
     let fields = plan.fields();
     let mut file = vec![in heap; 0; FIXED + fields.slots as usize]?;

@@ -12,6 +12,7 @@ pub use fault::FileFault;
 pub use fault::FileFaultFromPlanFault;
 pub use file::read_plan;
 pub use file::write_plan;
+pub use file::write_plan_into;
 pub use kept::KeptPlan;
 pub use order::Order;
 pub use tmcc::Tmcc;

@@ -3,7 +3,8 @@ ghost use mathlib.Core.List.{[], _∷_};
 ghost use mathlib.Core.Path.{_≡_};
 ghost use Prim.Native.Nat.{ℕ, _+_, _≤_, _<_};
 ghost use lib.ListN.{length, getD};
-ghost use Rattle.std.specs.Vec.{made};
+ghost use Rattle.std.specs.Vec.{made, refused};
+ghost use Rattle.slot_plan.specs.Faults.{number};
 ghost use Rattle.slot_plan.specs.Layout.{Shaped};
 ghost use Rattle.slot_plan.specs.Rules.{Valid};
 ghost use Rattle.plan_formats.specs.Bits.{Holds, front};
@@ -56,7 +57,7 @@ fn write_data(bytes: &mut [u8], order: u8, fields: &Fields)
     write_body(bytes, ORDER, &widths(), fields);
 }
 
-// 48 bytes of zeros.
+// 48 bytes to write into.
 pub(crate) fn no_data() -> [u8; 48]
     ensures { λ r. ⌜ length r ≡ 48 ⌝ }
 {
@@ -69,6 +70,7 @@ impl Tmcc {
         ensures holds { λ r. ⌜ Tmcc-data r (now (self .entry) .plan .fields .slots) (now (self .entry) .order .value) (now (self .entry) .plan .fields) ⌝ }
         ensures bytes { λ r. ⌜ Bytes r ⌝ }
         ensures back { λ r. ⌜ Tmcc-reads-back r (now (self .entry) .order .value) (now (self .entry) .plan .fields) ⌝ }
+        ensures only { λ r. ⌜ Only-data r (now (self .entry) .order .value) (now (self .entry) .plan .fields) ⌝ }
     {
         let mut bytes = no_data();
         write_data(&mut bytes, self.order.value(), self.plan.fields());
@@ -79,6 +81,7 @@ impl Tmcc {
     pub fn read(bytes: &[u8; 48], slots: u8) -> Result<Tmcc, PlanFault>
         ensures read { λ r. ⌜ Unpacked (now (bytes .entry)) slots r ⌝ }
         ensures only { λ r. ⌜ made r (λ t. Only-data (now (bytes .entry)) (t .order .value) (t .plan .fields)) ⌝ }
+        ensures rules { λ r. ⌜ refused r (λ fault. 1 ≤ slots → slots ≤ 48 → (4 ≤ number fault) × (number fault ≤ 6)) ⌝ }
     {
         let order = read_order(bytes);
         let plan = Plan::new(read_body(bytes, ORDER, &widths(), slots))?;

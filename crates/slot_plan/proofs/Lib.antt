@@ -3,3 +3,4 @@ pub mod Located
 pub mod Checked
 pub mod Carried
 pub mod Counted
+pub mod Below

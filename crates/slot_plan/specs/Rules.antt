@@ -30,16 +30,16 @@ Count-rule f line =
 abbrev pub Sum-rule : Fields → Type 0
 Sum-rule f = count f 1 + count f 2 + count f 3 + count f 4 ≡ f .slots
 
--- no slot between the two is active
-abbrev pub Next-active : Fields → ℕ → ℕ → Type 0
-Next-active f slot later =
+-- a slot is the last active one before a later slot
+abbrev pub Last-active-before : Fields → ℕ → ℕ → Type 0
+Last-active-before f slot later =
     (active f slot ≡ true) × ((between : ℕ) → slot < between → between < later → active f between ≡ false)
 
 -- A dummy slot has the stream number of the last active slot before it.
 abbrev pub Dummy-rule : Fields → ℕ → Type 0
 Dummy-rule f slot =
     active f slot ≡ false →
-    (last : ℕ) → 1 ≤ last → last < slot → Next-active f last slot → stream f slot ≡ stream f last
+    (last : ℕ) → 1 ≤ last → last < slot → Last-active-before f last slot → stream f slot ≡ stream f last
 
 -- An active slot of another stream than an active slot before it has another TS_ID.
 abbrev pub Ts-id-rule : Fields → ℕ → Type 0

@@ -1,13 +1,19 @@
 -- What a plan tells of its lines, slots and streams. Assumes nothing.
-use Prim.Native.Nat.{ℕ, zero, suc, _+_, _≤_}
+use Prim.Native.Nat.{ℕ, zero, suc, _+_, _%_, _≤_}
 use mathlib.Core.Bool.{Bool, true, false, cond}
 use mathlib.Core.Path.{_≡_}
+use lib.Dec.{ltb}
 use Rattle.slot_plan.specs.Layout.{stream, active, mode-word}
-use Rattle.slot_plan.specs.Modes.{word-of}
+use Rattle.slot_plan.specs.Modes.{unit, active-in-unit, word-of}
 use Rattle.slot_plan.specs.declared.fields.Fields.{Fields}
 use Rattle.slot_plan.specs.declared.slots.Role.{Role}
 use Rattle.slot_plan.specs.declared.slots.Role.the-variants.{Active, Dummy}
 use Rattle.slot_plan.specs.declared.slots.Slot.{Slot}
+
+-- of the first n slots of a line with this mode word, how many are active
+unfoldable pub active-below : ℕ → ℕ → ℕ
+active-below word zero = 0
+active-below word (suc n) = active-below word n + cond (ltb (n % unit word) (active-in-unit word)) 1 0
 
 -- of the slots 1 to n, how many are active
 abbrev pub active-up-to : Fields → ℕ → ℕ

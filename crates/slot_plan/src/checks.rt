@@ -7,10 +7,8 @@ ghost use Rattle.slot_plan.specs.Rules.{Passes, Valid};
 ghost use Prim.Native.Nat.{_≤_, _<_, _^_};
 use crate::fault::PlanFault;
 use crate::fields::Fields;
+use crate::fields::MOST_SLOTS;
 use crate::plan::Plan;
-
-// The most slots that a frame can have.
-const MOST_SLOTS: u8 = 48;
 
 // The first numbers that five control bits and 62 expanded bits cannot hold.
 const CONTROL_END: u8 = 32;

@@ -1,3 +1,9 @@
+// How many lines a plan has.
+pub const LINES: u8 = 4;
+
+// The most slots that a frame can have, and the number of stream numbers in the TMCC.
+pub const MOST_SLOTS: u8 = 48;
+
 // The numbers that a plan is made of, as a plan file or the TMCC states them, before any rule is checked.
 #[derive(Clone, Copy)]
 pub struct Fields {

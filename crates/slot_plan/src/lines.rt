@@ -6,15 +6,13 @@ ghost use Rattle.slot_plan.specs.Layout.{word, count};
 ghost use Rattle.slot_plan.specs.Rules.{Mode-rule, Count-rule, Sum-rule};
 ghost use Rattle.slot_plan.specs.Searches.{Least-failing};
 use crate::fields::Fields;
+use crate::fields::LINES;
 use crate::mode::Mode;
 
 // The mode word of an unused line, and the highest of a used one.
 const UNUSED: u8 = 15;
 
 const HIGHEST: u8 = 7;
-
-// How many lines a plan has.
-const LINES: u8 = 4;
 
 impl Fields {
     // Whether each line before this one has a mode word above `least`, and one that a used line can have.

@@ -2,13 +2,14 @@
 ghost use mathlib.Core.Bool.{true};
 ghost use mathlib.Core.Logic.{_⊎_, _≢_};
 ghost use mathlib.Core.Path.{_≡_};
-ghost use Prim.Native.Nat.{ℕ, _+_, _*_, _/_, _<_, _≤_};
+ghost use Prim.Native.Nat.{ℕ, _<_, _≤_};
 ghost use Rattle.std.specs.Options.{Cases};
 ghost use Rattle.std.specs.Orderings.{Decides};
 ghost use Rattle.slot_plan.specs.Layout.{word, count, ts-id};
-ghost use Rattle.slot_plan.specs.Modes.{word-of, unit, active-in-unit};
+ghost use Rattle.slot_plan.specs.Modes.{word-of};
 ghost use Rattle.slot_plan.specs.Rules.{unused};
-ghost use Rattle.slot_plan.specs.Views.{active-up-to, Used, Tells};
+ghost use Rattle.slot_plan.specs.Views.{active-below, active-up-to, Used, Tells};
+use crate::fields::LINES;
 use crate::mode::Mode;
 use crate::mode::ModeDebug;
 use crate::mode::ModePartialEq;
@@ -39,9 +40,12 @@ pub struct Slot {
 impl Line {
     // How many slots of the line are active.
     pub fn active_slots(self) -> u16
-        ensures { λ r. ⌜ r ≡ self .slots / unit (word-of (self .mode)) * active-in-unit (word-of (self .mode)) ⌝ }
+        ensures { λ r. ⌜ r ≡ active-below (word-of (self .mode)) (self .slots) ⌝ }
     {
-        u16::from(self.slots / self.mode.unit()) * u16::from(self.mode.active())
+        let unit = self.mode.unit();
+        let active = self.mode.active();
+        u16::from(self.slots / unit) * u16::from(active)
+            + u16::from((self.slots % unit).min(active))
     }
 }
 
@@ -120,6 +124,3 @@ impl Plan {
         self.fields.ts_ids.get(stream as usize).copied()
     }
 }
-
-// How many lines a plan has.
-const LINES: u8 = 4;

@@ -8,13 +8,9 @@ ghost use Rattle.slot_plan.specs.Layout.{word-among, place-among, mode-word, a
 ghost use Rattle.slot_plan.specs.Rules.{Dummy-rule, Ts-id-rule, Stream-rule};
 ghost use Rattle.slot_plan.specs.Searches.{Least-failing};
 use crate::fields::Fields;
+use crate::fields::LINES;
+use crate::fields::MOST_SLOTS;
 use crate::mode::Mode;
-
-// How many stream numbers the TMCC has room for, which is the most slots that a frame can have.
-const SLOTS: u8 = 48;
-
-// How many lines a plan has.
-const LINES: usize = 4;
 
 // The highest stream number.
 const LAST_STREAM: u8 = 7;
@@ -26,7 +22,7 @@ impl Fields {
         ensures place { λ r. ⌜ r .1 ≡ place-among (now (self .entry) .counts) (slot - 1) ⌝ }
     {
         let mut place = slot.saturating_sub(1);
-        for line in 0..LINES {
+        for line in 0..LINES as usize {
             let count = self.counts[line];
             if place < count {
                 return (self.words[line], place);
@@ -121,7 +117,7 @@ impl Fields {
     pub(crate) fn wrong_stream(&self) -> Option<u8>
         ensures { λ r. ⌜ Least-failing (Stream-rule (now (self .entry))) 48 r ⌝ }
     {
-        for slot in 1..=SLOTS {
+        for slot in 1..=MOST_SLOTS {
             if !self.stream_is_right(slot) {
                 return Some(slot);
             }

@@ -8,9 +8,9 @@ use Rattle.slot_plan.specs.declared.fault.PlanFault.the-variants.{SlotCount, Sl
 use Rattle.slot_plan.specs.declared.fields.Fields.{Fields}
 use Rattle.slot_plan.proofs.Checked.{plan-valid}
 use Rattle.plan_formats.specs.Bits.{Holds}
-use Rattle.plan_formats.specs.Formats.{file-fields, Plan-file}
-use Rattle.plan_formats.specs.Calls.{File-reads-back}
-use Rattle.plan_formats.proofs.Backwards.{file-back}
+use Rattle.plan_formats.specs.Formats.{file-fields, Plan-file, Bytes}
+use Rattle.plan_formats.specs.Calls.{File-reads-back, Only-file}
+use Rattle.plan_formats.proofs.Backwards.{file-back, only-file}
 use Rattle.plan_formats.proofs.Plans.{valid-beyond}
 use Rattle.plan_formats.proofs.file.write_plan.Needs as need
 
@@ -35,4 +35,5 @@ returns c =
     record {
       file = subst (λ (b : List ℕ). Plan-file b f) (sym whole) file;
       back = subst (λ (b : List ℕ). File-reads-back b f) (sym whole) (file-back bytes f (c .write-file .ensures .bytes) file (plan-valid p));
+      only = subst (λ (b : List ℕ). Bytes b × Only-file b f) (sym whole) (c .write-file .ensures .bytes, only-file bytes f (c .write-file .ensures .bytes) file);
     }

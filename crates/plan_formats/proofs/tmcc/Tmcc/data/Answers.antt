@@ -7,7 +7,7 @@ use Rattle.slot_plan.specs.declared.fields.Fields.{Fields}
 use Rattle.slot_plan.proofs.Checked.{plan-valid}
 use Rattle.plan_formats.specs.Bits.{Holds}
 use Rattle.plan_formats.specs.Formats.{tmcc-fields, Tmcc-data}
-use Rattle.plan_formats.proofs.Backwards.{tmcc-back}
+use Rattle.plan_formats.proofs.Backwards.{tmcc-back, only-data}
 use Rattle.plan_formats.proofs.tmcc.Tmcc.data.Needs as need
 
 pub write-data-requires : need.write-data-requires
@@ -30,4 +30,4 @@ returns c =
     let one : Holds bytes (tmcc-fields (c .value .result) f) = subst (λ (g : Fields). Holds bytes (tmcc-fields (c .value .result) g)) (c .fields .ensures) (c .write-data .ensures .holds) in
     let holds : Holds bytes (tmcc-fields order f) = subst (λ (o : ℕ). Holds bytes (tmcc-fields o f)) (c .value .ensures .value) one in
     let states : Tmcc-data bytes (f .slots) order f = record { shaped = p .shaped; frame = refl; holds = holds } in
-    record { holds = states; bytes = c .write-data .ensures .bytes; back = tmcc-back bytes order f states (plan-valid p) }
+    record { holds = states; bytes = c .write-data .ensures .bytes; back = tmcc-back bytes order f states (plan-valid p); only = only-data bytes order f (c .write-data .ensures .bytes) states }

@@ -10,7 +10,7 @@ use Rattle.plan_formats.specs.Bits.{front}
 use Rattle.plan_formats.specs.Body.{body, body-width, Run}
 use Rattle.plan_formats.specs.Formats.{tmcc-widths, Tmcc-data, Bytes}
 use Rattle.plan_formats.specs.declared.body.Widths.{Widths}
-use Rattle.plan_formats.proofs.Backwards.{only-data}
+use Rattle.plan_formats.proofs.Backwards.{only-data, rule-number}
 use Rattle.plan_formats.proofs.Heads.{tmcc-run}
 use Rattle.plan_formats.proofs.tmcc.Tmcc.read.Needs as need
 
@@ -33,7 +33,7 @@ returns-in-Break-plan c =
     (c .read-body .ensures .slots) (c .read-order-order .ensures) (c .read-body .ensures .run) in
     let p = err-from-errBy (c .from-residual .result) (c .from-residual .ensures .1) in
     rw (p .1, p .2)
-    (record { read = record { order = order; fields = f; states = own; answer = c .in-Break-plan .ensures tt }; only = tt })
+    (record { read = record { order = order; fields = f; states = own; answer = c .in-Break-plan .ensures tt }; only = tt; rules = λ low high. rule-number bytes (c .args .slots) order f own low high (c .in-Break-plan .field-0 .0) (c .in-Break-plan .ensures tt) })
 
 pub returns : need.returns
 returns c =
@@ -49,4 +49,5 @@ returns c =
     record {
       read = record { order = order; fields = f; states = own; answer = (refl, same) };
       only = only-data bytes order g (c .fits-bytes) again;
+      rules = tt;
     }

@@ -1,0 +1,12 @@
+pub mod Totals
+pub mod Weights
+pub mod Vanishing
+pub mod Differences
+pub mod Distances
+pub mod Sums
+pub mod Locating
+pub mod Recurrences
+pub mod Steps
+pub mod Divisions
+pub mod Reached
+pub mod Counting

@@ -1,0 +1,4 @@
+pub mod Every
+pub mod Eight
+pub mod Places
+pub mod Added

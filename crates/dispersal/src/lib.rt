@@ -1,0 +1,5 @@
+// The energy dispersal sequence, and adding it to bytes.
+mod sequence;
+mod steps;
+
+pub use sequence::Sequence;

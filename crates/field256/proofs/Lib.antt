@@ -1,0 +1,9 @@
+pub mod Below
+pub mod Sums
+pub mod Products
+pub mod Ring
+pub mod Inverses
+pub mod Powers
+pub mod Laws
+pub mod Listed
+pub mod Logarithms

@@ -1,0 +1,5 @@
+pub mod Faults
+pub mod Words
+pub mod Calls
+pub mod Results
+pub mod Kinds

@@ -1,0 +1,3 @@
+mod Run
+mod Formed
+mod Moved

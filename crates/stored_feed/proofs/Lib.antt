@@ -1,0 +1,7 @@
+mod Scan
+mod Bounds
+mod Packet
+mod Formed
+mod Count
+mod Zeros
+mod Moved
