@@ -22,27 +22,16 @@ pub struct Locator {
     ghost lead: { getD coefficients degree 0 ≡ 0 → ⊥ },
 }
 
-// What a division gives.
-#[derive(Clone, Copy)]
-pub struct Division {
-    pub quotient: [u8; SIZE],
-    pub remainder: u8,
-}
-
-// The polynomial divided by x less an element.
-pub fn divide(p: &[u8; SIZE], degree: usize, x: u8) -> Division
+// Divides a polynomial by x less an element: writes the quotient, and answers the remainder.
+pub fn divide(p: &[u8; SIZE], degree: usize, x: u8, quotient: &mut [u8; SIZE]) -> u8
     requires { ⌜ Of-degree degree (now p) ⌝ }
-    ensures { λ r. ⌜ Divided (now (p .entry)) degree x (r .quotient) (r .remainder) ⌝ }
+    ensures { λ r. ⌜ Divided (now (p .entry)) degree x (now (quotient .exit)) r ⌝ }
 {
-    let mut quotient = [0; SIZE];
+    *quotient = [0; SIZE];
     let mut carry = 0;
     for j in (0..degree).rev() {
         carry = sum(p[j + 1], product(x, carry));
         quotient[j] = carry;
     }
-    let remainder = sum(p[0], product(x, carry));
-    Division {
-        quotient,
-        remainder,
-    }
+    sum(p[0], product(x, carry))
 }

@@ -4,6 +4,7 @@ ghost use Rattle.locator.specs.Roots.{Roots};
 ghost use lib.ListN.{getD, length};
 ghost use mathlib.Core.Path.{_≡_};
 use crate::polynomial::Locator;
+use crate::polynomial::SIZE;
 use crate::polynomial::divide;
 use field256::exp;
 
@@ -33,11 +34,12 @@ impl Places {
         let mut list = [0; MOST];
         let mut count = 0;
         for k in 0..len {
-            let division = divide(&left, degree, exp(len - 1 - k));
-            if division.remainder == 0 {
+            let mut quotient = [0; SIZE];
+            let remainder = divide(&left, degree, exp(len - 1 - k), &mut quotient);
+            if remainder == 0 {
                 list[count] = k;
                 count += 1;
-                left = division.quotient;
+                left = quotient;
                 degree -= 1;
             }
         }

@@ -33,6 +33,6 @@ returns c =
     let inv = c .loop-j .inv in
     let end : c .loop-j .j ≡ 0 = omega arith in
     finished (c .args .p .now) (c .args .degree) (c .args .x) (c .pre) (c .loop-j .quotient) (inv .0) (λ i. inv .3 i (omega arith))
-    (c .sum-remainder .result)
-    (c .sum-remainder .ensures ∙ ap (plus (getD (c .args .p .now) 0 0))
+    (c .sum .result)
+    (c .sum .ensures ∙ ap (plus (getD (c .args .p .now) 0 0))
     (c .product-2 .ensures ∙ ap (times (c .args .x)) (inv .1 ∙ ap (λ (k : ℕ). getD (c .loop-j .quotient) k 0) end)))

@@ -1,0 +1,9 @@
+pub mod Reading
+pub mod Serving
+pub mod Carrying
+pub mod Lossless
+pub mod Coding
+pub mod Advancing
+pub mod Slots
+pub mod Finished
+pub mod Tallies

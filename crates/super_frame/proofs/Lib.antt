@@ -1,0 +1,12 @@
+pub mod Apart
+pub mod Overwritten
+pub mod Rows
+pub mod Blocks
+pub mod Staging
+pub mod Headings
+pub mod Finished
+pub mod Takings
+pub mod Deinterleaved
+pub mod Offs
+pub mod Backs
+pub mod Readings
