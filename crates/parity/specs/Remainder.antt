@@ -16,7 +16,7 @@ bytes-of (suc k) n = n / 256 ^ k % 256 ∷ bytes-of k n
 unfoldable pub shifted : ℕ → List ℕ → List ℕ
 shifted k w = w ++ replicate k 0
 
--- The number's sixteen bytes are the remainder of the word by the generator: the polynomial of less than sixteen coefficients that has the word's value at each of the generator's roots.
+-- The number's sixteen bytes are the remainder of the word by the generator: the polynomial of degree below sixteen that has the word's value at each of the generator's roots.
 pub record Remainder (w : List ℕ) (r : ℕ) : Type 0 where
   pub fits : r < 2 ^ 128
   pub same : (j : ℕ) → j < 16 → value (bytes-of 16 r) (power 2 j) ≡ value w (power 2 j)
