@@ -44,3 +44,8 @@ whole n m next before after begins goes =
 pub made-on : {E P Q : Type 0} (r : Result (Unit {0}) E) → (P → Q) → made r (λ _. P) → made r (λ _. Q)
 made-on (Ok x) f h = f h
 made-on (Err e) f h = h
+
+-- what holds whatever a call answers
+pub made-all : {E P : Type 0} (r : Result (Unit {0}) E) → P → made r (λ _. P)
+made-all (Ok x) h = h
+made-all (Err e) h = tt

@@ -1,6 +1,8 @@
 // Where the packets come from: a packet file, or a pattern.
 use crate::arguments::Job;
 use crate::sending;
+use crate::sending::Stated;
+use crate::sending::read_plan_file;
 use feed::STREAMS;
 use pattern_feed::PatternFeed;
 use pattern_feed::PatternFeedFeed;
@@ -34,8 +36,12 @@ fn counts(text: &str) -> Result<[u16; STREAMS], AnyError> {
 
 // Sends the packets that the job names.
 pub fn send(rt: &LibcRuntime, job: &Job) -> Result<(), AnyError> {
-    let Some(plan) = sending::read_plan_file(rt, job.plan.as_str())? else {
-        return Ok(());
+    let plan = match read_plan_file(rt, job.plan.as_str())? {
+        Stated::Plan(plan) => plan,
+        Stated::Refused(number) => {
+            println!(rt, "PLAN REFUSED {number}")?;
+            return Ok(());
+        }
     };
     if let Some(text) = job.packets.as_str().strip_prefix(PATTERN) {
         let mut feed = PatternFeed::new(counts(text)?);

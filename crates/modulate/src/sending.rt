@@ -19,39 +19,40 @@ use std::fs::File;
 use std::io;
 use std::io::Write;
 
-// A plan to install, and the super-frame that it comes before.
+// What a plan file states: a plan, or the number of its refusal.
+#[derive(Clone, Copy)]
+pub enum Stated {
+    Plan(Plan),
+    Refused(u8),
+}
+
+// A plan file to install, and the super-frame that it comes before.
 #[derive(Clone, Copy)]
 pub struct Install {
     at: u32,
-    plan: Plan,
+    stated: Stated,
 }
 
-// Reads a plan file, or prints why it is refused.
-pub fn read_plan_file(rt: &LibcRuntime, path: &str) -> Result<Option<Plan>, AnyError> {
+// Reads a plan file.
+pub fn read_plan_file(rt: &LibcRuntime, path: &str) -> Result<Stated, AnyError> {
     let file = fs::read(rt, path)?;
     match read_plan(file.as_slice()) {
-        Ok(plan) => Ok(Some(plan)),
-        Err(fault) => {
-            let number = fault.number();
-            println!(rt, "PLAN REFUSED {number}")?;
-            Ok(None)
-        }
+        Ok(plan) => Ok(Stated::Plan(plan)),
+        Err(fault) => Ok(Stated::Refused(fault.number())),
     }
 }
 
-// Reads the plans to install, or prints why one is refused.
-fn read_installs(rt: &LibcRuntime, job: &Job) -> Result<Option<Vec<Install>>, AnyError> {
+// Reads the plan files to install.
+fn read_installs(rt: &LibcRuntime, job: &Job) -> Result<Vec<Install>, AnyError> {
     let mut installs = Vec::new(rt.alloc());
     for change in job.changes.as_slice() {
-        let Some(plan) = read_plan_file(rt, change.path.as_str())? else {
-            return Ok(None);
-        };
+        let stated = read_plan_file(rt, change.path.as_str())?;
         installs.push(Install {
             at: change.at,
-            plan,
+            stated,
         })?;
     }
-    Ok(Some(installs))
+    Ok(installs)
 }
 
 // How many packets of each stream wait.
@@ -79,6 +80,21 @@ fn install_one(rt: &LibcRuntime, modulator: &mut Loaded, plan: &Plan, number: u3
     }
 }
 
+// Installs what a plan file states, and prints what came of it.
+fn install_stated(
+    rt: &LibcRuntime,
+    modulator: &mut Loaded,
+    stated: Stated,
+    number: u32,
+) -> io::Result<()>
+    ensures { λ r. ⌜ made r (λ _. (waiting : Lists) → Goes-on 0 (now (modulator .entry)) waiting (now (modulator .exit)) waiting) ⌝ }
+{
+    match stated {
+        Stated::Plan(plan) => install_one(rt, modulator, &plan, number),
+        Stated::Refused(refusal) => println!(rt, "I {number} REFUSED {refusal}"),
+    }
+}
+
 // Installs the plans that come before a super-frame.
 fn install_due(
     rt: &LibcRuntime,
@@ -90,7 +106,7 @@ fn install_due(
 {
     for next in installs {
         if next.at == number {
-            install_one(rt, modulator, &next.plan, number)?;
+            install_stated(rt, modulator, next.stated, number)?;
         }
     }
     Ok(())
@@ -202,9 +218,7 @@ pub fn send<F: Feed>(
     plan: &Plan,
     feed: &mut F,
 ) -> Result<(), AnyError> {
-    let Some(installs) = read_installs(rt, job)? else {
-        return Ok(());
-    };
+    let installs = read_installs(rt, job)?;
     let before = waiting(feed);
     transmit(rt, job, plan, installs.as_slice(), feed)?;
     print_totals(rt, &before, feed)?;
