@@ -3,6 +3,7 @@ mod tables;
 
 ghost use Prim.Native.Nat.{_<_};
 ghost use Rattle.field256.specs.Field.{plus, power, times};
+ghost use Rattle.field256.specs.Rules.{Field-laws};
 ghost use Rattle.std.specs.Options.{Cases};
 ghost use mathlib.Core.Path.{_≡_};
 use tables::exp_entry;
@@ -64,4 +65,12 @@ pub fn reduction() -> u8
     ensures { λ r. ⌜ r ≡ times 0x02 0x80 ⌝ ∗ ⌜ r ≡ 0x1D ⌝ }
 {
     product(X, X_TO_SEVEN)
+}
+
+// How many elements the field has; and that it is one.
+pub fn elements() -> usize
+    ensures number { λ r. ⌜ r ≡ 256 ⌝ }
+    ensures laws { λ _. ⌜ Field-laws ⌝ }
+{
+    ORDER + 1
 }

@@ -13,6 +13,10 @@ use Rattle.plan_formats.specs.Body.{body, lines, numbers}
 use Rattle.plan_formats.specs.Formats.{Bytes, Tmcc-data, tmcc-fields, tmcc-widths}
 use Rattle.plan_formats.proofs.Heads.{front-byte, front-none}
 use Rattle.plan_formats.proofs.Prefixes.{holds-front}
+use mathlib.Core.Logic.{inl, inr}
+use Rattle.std.proofs.shelf.Lists.{getD-take, getD-past, length-take}
+use Rattle.std.proofs.shelf.Tests.{cases-lt}
+use Rattle.tmcc_word.specs.Words.{Tmcc-word}
 use Rattle.known_results.specs.Known.{Forty-six-and-two, Data-begin, Super-frame-begins, Sequence-begins}
 
 -- the first 48 bits
@@ -69,6 +73,16 @@ pub sequence-begins : Sequence-begins
 unfolding sequence bits state
 sequence-begins = (refl, refl, refl, refl)
 
+-- the first bytes of bytes are bytes
+taken-bytes : (w : List ℕ) → Bytes w → Bytes (take 48 w)
+taken-bytes w bytes k =
+    elim (cases-lt k 48) [
+      | inl l ↦ omega (arith, getD-take 48 w k 0 l, bytes k)
+      | inr l ↦
+          let past : length (take 48 w) ≤ k = omega (arith, length-take 48 w, l) in
+          omega (arith, getD-past (take 48 w) k 0 past)
+    ]
+
 head-at : (tmcc : List ℕ) (words : ℕ → ℕ → List ℕ) (i x : ℕ) → i < 4 → getD tmcc i 0 ≡ x → byte-at 48 tmcc words (2 + i) ≡ bitXor x (sequence i)
 unfolding byte-at frame-byte head-byte tmcc-byte
 head-at tmcc words zero x h e = ap (λ (y : ℕ). bitXor y (sequence 0)) e
@@ -82,13 +96,16 @@ unfolding byte-at frame-byte head-byte
 marks tmcc words = (refl, refl)
 
 pub super-frame-begins : Super-frame-begins
-super-frame-begins tmcc words stream s a b c d =
+super-frame-begins f tmcc words stream p zero-stream t s =
     let m = marks tmcc words in
-    let q = sequence-begins in (
+    let q = sequence-begins in
+    let at : (i : ℕ) → i < 48 → getD (take 48 tmcc) i 0 ≡ getD tmcc i 0 = λ i h. getD-take 48 tmcc i 0 h in
+    let front-bytes : Bytes (take 48 tmcc) = taken-bytes tmcc (t .bytes) in
+    let d = data-begin f (take 48 tmcc) p zero-stream front-bytes (t .states) in (
       s .bytes 0 (omega arith) ∙ m .0,
       s .bytes 1 (omega arith) ∙ m .1,
-      s .bytes 2 (omega arith) ∙ head-at tmcc words 0 0x03 (omega arith) a ∙ ap (λ (y : ℕ). bitXor 0x03 y) (q .0),
-      s .bytes 3 (omega arith) ∙ head-at tmcc words 1 0xDC (omega arith) b ∙ ap (λ (y : ℕ). bitXor 0xDC y) (q .1),
-      s .bytes 4 (omega arith) ∙ head-at tmcc words 2 0x41 (omega arith) c ∙ ap (λ (y : ℕ). bitXor 0x41 y) (q .2),
-      s .bytes 5 (omega arith) ∙ head-at tmcc words 3 0x78 (omega arith) d ∙ ap (λ (y : ℕ). bitXor 0x78 y) (q .3),
+      s .bytes 2 (omega arith) ∙ head-at tmcc words 0 0x03 (omega arith) (sym (at 0 (omega arith)) ∙ d .0) ∙ ap (λ (y : ℕ). bitXor 0x03 y) (q .0),
+      s .bytes 3 (omega arith) ∙ head-at tmcc words 1 0xDC (omega arith) (sym (at 1 (omega arith)) ∙ d .1) ∙ ap (λ (y : ℕ). bitXor 0xDC y) (q .1),
+      s .bytes 4 (omega arith) ∙ head-at tmcc words 2 0x41 (omega arith) (sym (at 2 (omega arith)) ∙ d .2) ∙ ap (λ (y : ℕ). bitXor 0x41 y) (q .2),
+      s .bytes 5 (omega arith) ∙ head-at tmcc words 3 0x78 (omega arith) (sym (at 3 (omega arith)) ∙ d .3) ∙ ap (λ (y : ℕ). bitXor 0x78 y) (q .3),
     )

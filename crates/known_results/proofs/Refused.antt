@@ -33,7 +33,7 @@ module _ (f : Fields) (low : 1 ≤ f .slots) (high : f .slots ≤ 48) (one : get
       omega (arith, falls, one, two)
 
 pub rising-words : Rising-words
-rising-words f low high one two = record { fails = second-fails f low high one two; first = before-second f low high one two }
+rising-words f low high one two = (record { fails = second-fails f low high one two; first = before-second f low high one two }, refl)
 
 module _ (f : Fields) (low : 1 ≤ f .slots) (high : f .slots ≤ 48) (modes : (line : ℕ) → Passes f (ModeWord line))
     (word : getD (f .words) 0 0 ≡ 4) (count : getD (f .counts) 0 0 ≡ 6) where
@@ -54,4 +54,4 @@ module _ (f : Fields) (low : 1 ≤ f .slots) (high : f .slots ≤ 48) (modes : (
       omega (arith, left)
 
 pub broken-unit : Broken-unit
-broken-unit f low high modes word count = record { fails = count-fails f low high modes word count; first = before-counts f low high modes word count }
+broken-unit f low high modes word count = (record { fails = count-fails f low high modes word count; first = before-counts f low high modes word count }, refl)

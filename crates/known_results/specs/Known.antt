@@ -9,11 +9,13 @@ use Rattle.dispersal.specs.Stages.{sequence}
 use Rattle.field256.specs.Field.{times}
 use Rattle.frame_layout.specs.Layout.{super-size, Super-frame}
 use Rattle.interleaver.specs.Blocks.{row, column}
-use Rattle.outer_code.specs.Kinds.{Sync, Any, Slot-corrected, Tmcc-corrected}
+use Rattle.outer_code.specs.Calls.{Answered}
+use Rattle.outer_code.specs.Kinds.{Sync, Any}
 use Rattle.outer_code.specs.Results.{At-six}
 use Rattle.outer_code.specs.declared.fault.CodeFault.{CodeFault}
 use Rattle.plan_formats.specs.Formats.{Bytes, Tmcc-data}
-use Rattle.slot_plan.specs.Faults.{First, order}
+use Rattle.tmcc_word.specs.Words.{Tmcc-word}
+use Rattle.slot_plan.specs.Faults.{First, number, order}
 use Rattle.slot_plan.specs.Layout.{active}
 use Rattle.slot_plan.specs.Rules.{Passes}
 use Rattle.slot_plan.specs.declared.fault.PlanFault.the-variants.{ModeWord, LineCount}
@@ -53,30 +55,31 @@ Data-begin =
     (getD bytes 0 0 ≡ 0x03) × (getD bytes 1 0 ≡ 0xDC) × (getD bytes 2 0 ≡ 0x41) × (getD bytes 3 0 ≡ 0x78) × (getD bytes 4 0 ≡ 0x1E)
     × (getD bytes 5 0 ≡ 0x00)
 
--- and a super-frame whose TMCC word begins so begins 1Bh 95h 00h 2Ah 49h 4Ch
+-- and its super-frame begins 1Bh 95h 00h 2Ah 49h 4Ch
 abbrev pub Super-frame-begins : Type 0
 Super-frame-begins =
-    (tmcc : List ℕ) (words : ℕ → ℕ → List ℕ) (stream : List ℕ) → Super-frame 48 tmcc words stream →
-    getD tmcc 0 0 ≡ 0x03 → getD tmcc 1 0 ≡ 0xDC → getD tmcc 2 0 ≡ 0x41 → getD tmcc 3 0 ≡ 0x78 →
+    (f : Fields) (tmcc : List ℕ) (words : ℕ → ℕ → List ℕ) (stream : List ℕ) →
+    Forty-six-and-two f → getD (f .streams) 0 0 ≡ 0 → Tmcc-word tmcc 48 0 f → Super-frame 48 tmcc words stream →
     (getD stream 0 0 ≡ 0x1B) × (getD stream 1 0 ≡ 0x95) × (getD stream 2 0 ≡ 0x00) × (getD stream 3 0 ≡ 0x2A) × (getD stream 4 0 ≡ 0x49)
     × (getD stream 5 0 ≡ 0x4C)
 
 -- mode words 2 and then 7 are refused by 4 at line 2
 abbrev pub Rising-words : Type 0
 Rising-words =
-    (f : Fields) → 1 ≤ f .slots → f .slots ≤ 48 → getD (f .words) 0 0 ≡ 2 → getD (f .words) 1 0 ≡ 7 → First (Passes f) order (ModeWord 2)
+    (f : Fields) → 1 ≤ f .slots → f .slots ≤ 48 → getD (f .words) 0 0 ≡ 2 → getD (f .words) 1 0 ≡ 7 →
+    First (Passes f) order (ModeWord 2) × (number (ModeWord 2) ≡ 4)
 
 -- mode word 4 with a count of 6 in line 1, where the mode words are right, is refused by 5 at line 1
 abbrev pub Broken-unit : Type 0
 Broken-unit =
     (f : Fields) → 1 ≤ f .slots → f .slots ≤ 48 → ((line : ℕ) → Passes f (ModeWord line)) → getD (f .words) 0 0 ≡ 4 →
-    getD (f .counts) 0 0 ≡ 6 → First (Passes f) order (LineCount 1)
+    getD (f .counts) 0 0 ≡ 6 → First (Passes f) order (LineCount 1) × (number (LineCount 1) ≡ 5)
 
 -- with the bound 6, six wrong bytes are corrected and seven to ten refused, in a slot word and in a TMCC word
 abbrev pub Six-errors : Type 0
 Six-errors =
-    ((w : List ℕ) (answer : Result (Unit {0}) CodeFault) (after : List ℕ) → Slot-corrected 6 w answer after → length w ≡ 204 → At-six Sync w answer after)
-    × ((w : List ℕ) (answer : Result (Unit {0}) CodeFault) (after : List ℕ) → Tmcc-corrected 6 w answer after → length w ≡ 64 → At-six Any w answer after)
+    ((w : List ℕ) (answer : Result (Unit {0}) CodeFault) (after : List ℕ) → Answered 204 Sync 6 w answer after → length w ≡ 204 → At-six Sync w answer after)
+    × ((w : List ℕ) (answer : Result (Unit {0}) CodeFault) (after : List ℕ) → Answered 64 Any 6 w answer after → length w ≡ 64 → At-six Any w answer after)
 
 -- all of them
 pub record Known-results : Type 0 where

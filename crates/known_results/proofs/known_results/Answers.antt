@@ -1,5 +1,8 @@
 use mathlib.Core.Path.{_≡_, refl}
 use Rattle.field256.specs.Field.{times, twice, bitwise-product, reduced, plus}
+use native.Mathlib.Omega.{arith}
+use Rattle.outer_code.specs.Kinds.{Sync, Any}
+use Rattle.outer_code.proofs.Results.{correction}
 use Rattle.known_results.specs.Known.{Product}
 use Rattle.known_results.proofs.Slots.{one-dummy}
 use Rattle.known_results.proofs.Beginnings.{data-begin, sequence-begins, super-frame-begins}
@@ -24,7 +27,10 @@ returns c =
             super-frame-begins = super-frame-begins;
             rising-words = rising-words;
             broken-unit = broken-unit;
-            six-errors = (λ w answer after k len. k .at-six len refl, λ w answer after k len. k .at-six len refl);
+            six-errors = (
+              (λ w answer after a len. correction 204 Sync 6 w answer after (omega arith) a .at-six len refl),
+              (λ w answer after a len. correction 64 Any 6 w answer after (omega arith) a .at-six len refl),
+            );
           };
       number = refl;
     }
