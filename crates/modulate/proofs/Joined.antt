@@ -22,10 +22,9 @@ stays m lists start earlier run = (earlier, omega arith, record { run = run; law
 pub installs : (m next : Loaded) → Install-continues m next → (lists : Lists) → Goes-on 0 m lists next lists
 installs m next i lists start earlier run = (earlier, omega arith, i start lists earlier run)
 
-pub fills : (m : Loaded) (before after : Lists) (tally : Tally) → Fill-continues m before (Ok tally) after → Goes-on 1 m before m after
-fills m before after tally f start earlier run =
-    let more = f start earlier run in
-    (more .0 ∷ earlier, omega arith, more .1)
+pub fills :
+    (m : Loaded) (before after : Lists) (tally : Tally) (out : List ℕ) → Fill-continues m before (Ok tally) out after → Goes-on 1 m before m after
+fills m before after tally out f start earlier run = (f .0 ∷ earlier, omega arith, f .2 start earlier run)
 
 pub joined :
     (k n : ℕ) {a b c : Loaded} {before between after : Lists} →

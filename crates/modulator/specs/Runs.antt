@@ -61,11 +61,12 @@ abbrev pub Begins : Result Loaded Unloaded → Type 0
 Begins (Ok m) = (start : Lists) → Lawful start m start []
 Begins (Err _) = Unit {0}
 
--- a fill continues any run, by a super-frame if it is done
-abbrev pub Fill-continues : Loaded → Lists → Result Tally ModulatorFault → Lists → Type 0
-Fill-continues m before (Ok _) after =
-    (start : Lists) (earlier : List Sent) → Run start m before earlier → (sent : Sent) × Lawful start m after (sent ∷ earlier)
-Fill-continues m before (Err _) after =
+-- a fill continues any run, by the super-frame that it wrote if it is done
+abbrev pub Fill-continues : Loaded → Lists → Result Tally ModulatorFault → List ℕ → Lists → Type 0
+Fill-continues m before (Ok _) out after =
+    (sent : Sent) × Filled m before sent out after
+    × ((start : Lists) (earlier : List Sent) → Run start m before earlier → Lawful start m after (sent ∷ earlier))
+Fill-continues m before (Err _) out after =
     (start : Lists) (earlier : List Sent) → Run start m before earlier → Lawful start m after earlier
 
 -- an install, done or refused, continues any run

@@ -7,6 +7,7 @@ ghost use Rattle.frame_layout.specs.Layout.{super-size};
 ghost use Rattle.modulator.specs.Fills.{Sent, Filled, Fill, over-streams};
 ghost use Rattle.plan_formats.specs.Kept.{Keeps};
 ghost use Rattle.modulator.specs.Runs.{Fill-continues};
+ghost use Rattle.std.specs.Vec.{refused};
 ghost use Rattle.modulator.specs.Progress.{Next-word, Begun};
 use crate::fault::ModulatorFault;
 use crate::state::Loaded;
@@ -96,7 +97,8 @@ impl Loaded {
     // Fills one super-frame with the feed's packets, and counts them.
     pub fn fill<F: Feed>(&self, feed: &mut F, out: &mut [u8]) -> Result<Tally, ModulatorFault>
         ensures fill { λ r. ⌜ Fill (now (self .entry)) (F·Feed .lists (now (feed .entry))) (now (out .entry)) r (now (out .exit)) (F·Feed .lists (now (feed .exit))) ⌝ }
-        ensures run { λ r. ⌜ Fill-continues (now (self .entry)) (F·Feed .lists (now (feed .entry))) r (F·Feed .lists (now (feed .exit))) ⌝ }
+        ensures run { λ r. ⌜ Fill-continues (now (self .entry)) (F·Feed .lists (now (feed .entry))) r (now (out .exit)) (F·Feed .lists (now (feed .exit))) ⌝ }
+        ensures kept { λ r. ⌜ refused r (λ _. now (feed .exit) ≡ now (feed .entry)) ⌝ }
     {
         let plan = self.kept.plan();
         if out.len() != super_frame_size(plan.slots()) {

@@ -25,7 +25,7 @@ pub struct Unloaded {
     pub fault: ModulatorFault,
 }
 
-// How many packets a super-frame placed, and how many null packets it carries.
+// How many packets a super-frame placed, and in how many of its active slots none was placed.
 #[derive(Clone, Copy)]
 pub struct Tally {
     pub placed: u32,

@@ -5,7 +5,7 @@ ghost use Prim.Native.Nat.{ℕ, _≤_};
 use feed::STREAMS;
 
 // How far each of eight streams has come.
-#[derive(Clone, Copy)]
+#[derive(Drop)]
 pub struct PatternFeed {
     // the number of each stream's next packet
     pub(crate) next: [u16; STREAMS],

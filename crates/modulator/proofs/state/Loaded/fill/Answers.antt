@@ -23,7 +23,7 @@ returns-then-out-super-frame-size g c =
       untouched = refl;
       untaken = λ r. refl;
     } in
-    record { fill = done; run = fill-continues m lists out (Err Length) out lists done }
+    record { fill = done; run = fill-continues m lists out (Err Length) out lists done; kept = refl }
 
 pub sub-placed : need.sub-placed
 sub-placed g c = omega (arith, placed-all (c .write .ensures .2))
@@ -47,4 +47,4 @@ returns g c =
     } in
     let done : Fill m before buffer (Ok tally) out after =
     (omega (arith, c .plan-plan .ensures .kept .frame), (sent, filled, counted)) in
-    record { fill = done; run = fill-continues m before buffer (Ok tally) out after done }
+    record { fill = done; run = fill-continues m before buffer (Ok tally) out after done; kept = tt }
