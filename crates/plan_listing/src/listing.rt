@@ -10,12 +10,10 @@ use crate::lines::mode_line;
 use crate::lines::refusal;
 use crate::lines::slot_line;
 use plan_formats::read_plan;
+use slot_plan::LINES;
 use slot_plan::Plan;
 use std::alloc::AllocError;
 use std::alloc::Global;
-
-// How many lines a plan has.
-const LINES: u8 = 4;
 
 // The line of the listing for a line of a plan, and no text for an unused one.
 fn line_text(heap: Global, plan: &Plan, line: u8) -> Result<String, AllocError>
