@@ -3,4 +3,4 @@ use Rattle.field256.proofs.Powers.{two_power_mod}
 use Rattle.field256.proofs.exp.Goals as goal
 
 pub returns : goal.returns
-returns c = c.exp-entry.ensures.power (omega arith) ∙ two_power_mod c.args.n
+returns c = c.exp_entry.ensures.power (omega arith) ∙ two_power_mod c.args.n

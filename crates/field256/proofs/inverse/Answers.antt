@@ -6,8 +6,8 @@ use Rattle.field256.proofs.inverse.Goals as goal
 pub returns-else-a-eq0 : goal.returns-else-a-eq0
 returns-else-a-eq0 c =
     let h : 0 < c.args.a = omega arith in
-    let n = c.log-entry.ensures.power h in (
-      c.exp-entry.type-inv,
-      ap (times c.args.a) (c.exp-entry.ensures.power (omega arith))
-          ∙ two_power_inverse c.args.a c.log-entry.result (omega arith) n.1,
+    let n = c.log_entry.ensures.power h in (
+      c.exp_entry.type_inv,
+      ap (times c.args.a) (c.exp_entry.ensures.power (omega arith))
+          ∙ two_power_inverse c.args.a c.log_entry.result (omega arith) n.1,
     )

@@ -3,5 +3,5 @@ use Rattle.parity.proofs.check_bytes.Goals as goal
 
 pub returns : goal.returns
 returns c =
-    rw c.bytes-of.ensures
-    (checks c.args.message.now c.divided.result (λ k. (c.type-inv.message k).fits) c.divided.ensures)
+    rw c.bytes_of.ensures
+    (checks c.args.message.now c.divided.result (λ k. (c.type_inv.message k).fits) c.divided.ensures)

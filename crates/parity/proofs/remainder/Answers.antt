@@ -15,11 +15,11 @@ front_or_back n f b p q = search arith
 joined : (c : goal.After-number) → Remainder c.args.word.now (bit_xor c.divided.result c.number.result)
 joined c =
     let w = c.args.word.now in
-    let s = c.split-at.ensures in
-    let u = c.split-at.result.0.now in
-    let v = c.split-at.result.1.now in
-    let fu : Bytes u = rw s.front (bytes_take c.saturating-sub.result w (λ k. (c.type-inv.word k).fits)) in
-    let fv : Bytes v = λ k. rw (s.by_index.2 k 0) (c.type-inv.word (c.saturating-sub.result + k)).fits in
+    let s = c.split_at.ensures in
+    let u = c.split_at.result.0.now in
+    let v = c.split_at.result.1.now in
+    let fu : Bytes u = rw s.front (bytes_take c.saturating_sub.result w (λ k. (c.type_inv.word k).fits)) in
+    let fv : Bytes v = λ k. rw (s.by_index.2 k 0) (c.type_inv.word (c.saturating_sub.result + k)).fits in
     let r = remainder_split u v c.divided.result fu fv (omega arith) (front_or_back (length w) (length u) (length v) (omega arith) (omega arith)) c.divided.ensures in
     rw (s.by_index.0, c.number.ensures) r
 

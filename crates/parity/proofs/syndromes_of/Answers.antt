@@ -6,7 +6,7 @@ use Rattle.parity.proofs.syndromes_of.Goals as goal
 pub returns : goal.returns
 unfolding low_bytes
 returns c =
-    let v = c.values-at-roots.ensures in
+    let v = c.values_at_roots.ensures in
     let n = c.args.remainder in
-    let low : c.to-le-bytes.result ≡ low_bytes 0 16 n = simp div-one c.to-le-bytes.ensures in
-    record { size = v.size; bytes = v.bytes; at = λ j h. v.at j h ∙ low_values n c.to-le-bytes.result (power 2 j) low }
+    let low : c.to_le_bytes.result ≡ low_bytes 0 16 n = simp div-one c.to_le_bytes.ensures in
+    record { size = v.size; bytes = v.bytes; at = λ j h. v.at j h ∙ low_values n c.to_le_bytes.result (power 2 j) low }

@@ -17,7 +17,7 @@ loop-place-preserved c j h =
 pub returns : goal.returns
 returns c =
     let end : c.loop-place.place ≡ min (length c.args.p.now) 16 = omega arith in
-    rw c.bytes-of.ensures (record {
+    rw c.bytes_of.ensures (record {
       size = length_bytes 16 c.loop-place.all;
       bytes = bytes_fit 16 c.loop-place.all;
       at = λ j h. c.loop-place.invariant j h ∙ ap (λ (n : ℕ). polynomial n c.args.p.now (power 2 j)) end;

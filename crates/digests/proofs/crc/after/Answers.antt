@@ -11,11 +11,11 @@ pub loop-step-preserved : goal.loop-step-preserved
 unfolding times
 loop-step-preserved c =
     let start = bit_xor c.args.register c.from.result in
-    c.shift-register.ensures ∙ ap shifted c.loop-step.invariant ∙ ap (λ (n : ℕ). times n start) (sym (add-one c.loop-step.-step))
+    c.shift-register.ensures ∙ ap shifted c.loop-step.invariant ∙ ap (λ (n : ℕ). times n start) (sym (add-one c.loop-step._step))
 
 pub returns : goal.returns
 unfolding crc_step
 returns c =
-    let all : c.loop-step.-step ≡ 8 = omega arith in
+    let all : c.loop-step._step ≡ 8 = omega arith in
     c.loop-step.invariant ∙ ap (λ (n : ℕ). times n (bit_xor c.args.register c.from.result)) all
     ∙ ap (λ (b : ℕ). times 8 (bit_xor c.args.register b)) c.from.ensures

@@ -8,7 +8,7 @@ pub returns : goal.returns
 returns g c =
     let rest = g.T.Element.idle in
     let block = c.args.block.now in
-    let blocks = c.in-ok-admit.ensures.0 in
+    let blocks = c.in_ok-admit.ensures.0 in
     let written : c.loop-k.into ≡ deinterleaved rest block =
     transposed_from 203 8 rest block c.loop-k.into (omega (arith, blocks.1))
     (λ k h.

@@ -10,7 +10,7 @@ pub loop-k-preserved : goal.loop-k-preserved
 loop-k-preserved g c =
     let rest = g.T.Element.idle in
     let block = c.args.block.now in
-    let blocks = c.in-ok-admit.ensures.0 in
+    let blocks = c.in_ok-admit.ensures.0 in
     let read = c.index-block-place in
     let own : read.result ≡ get_or block (place 8 203 c.loop-k.k) rest =
     get_or_read block c.place.result read.result (omega (arith, blocks.0)) read.is rest
@@ -22,7 +22,7 @@ pub returns : goal.returns
 returns g c =
     let rest = g.T.Element.idle in
     let block = c.args.block.now in
-    let blocks = c.in-ok-admit.ensures.0 in
+    let blocks = c.in_ok-admit.ensures.0 in
     let written : c.loop-k.into ≡ interleaved rest block =
     transposed_from 8 203 rest block c.loop-k.into (omega (arith, blocks.1)) (λ k h. c.loop-k.invariant k (omega arith)) in
     record {

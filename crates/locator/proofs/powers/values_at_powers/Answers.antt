@@ -13,10 +13,10 @@ loop-block-preserved c =
     let b : ℕ = c.loop-block.block in
     let next : 16 * (b + 1) ≡ 16 * b + 16 = omega arith in (
       c.put.ensures.size,
-      c.move-on.ensures.size,
-      rw next (moved_more p c.loop-block.moved c.move-on.new.p (16 * b) inv.2 c.move-on.ensures.at),
+      c.move_on.ensures.size,
+      rw next (moved_more p c.loop-block.moved c.move_on.new.p (16 * b) inv.2 c.move_on.ensures.at),
       rw next
-          (values_more p c.loop-block.moved c.values-at-roots.result c.loop-block.values c.put.new.values (16 * b) inv.1 inv.2
-          c.values-at-roots.ensures inv.3 c.put.ensures.block c.put.ensures.before),
+          (values_more p c.loop-block.moved c.values_at_roots.result c.loop-block.values c.put.new.values (16 * b) inv.1 inv.2
+          c.values_at_roots.ensures inv.3 c.put.ensures.block c.put.ensures.before),
       λ i l. c.put.ensures.behind i (omega arith) ∙ inv.4 i (omega arith),
     )

@@ -15,10 +15,10 @@ pub loop-k-preserved : goal.loop-k-preserved
 loop-k-preserved c =
     let s = c.args.sequence.now in
     let places = c.args.places.now in
-    let p : List ℕ = c.polynomial-of-p.result in
+    let p : List ℕ = c.polynomial_of-p.result in
     let bytes : List ℕ = c.loop-k.bytes in
     let k : ℕ = c.loop-k.k in
-    let b : ℕ = c.byte-at.result in
+    let b : ℕ = c.byte_at.result in
     let inv = c.loop-k.invariant in
     let full : k < length bytes = omega (arith, inv.0, places.room) in
     let same : (i : ℕ) → i < k → get_or bytes i 0 ≡ get_or (set bytes k b) i 0
@@ -27,9 +27,9 @@ loop-k-preserved c =
     let At : ℕ → ℕ → Type 0 = λ i v. ByteAt s places.len places.count places.list i v in
     let By : ℕ → ℕ → Type 0 = λ i v. Weighed s p (place places.len (get_or places.list i 0)) v in (
       length-set bytes k b ∙ inv.0,
-      bytes_set bytes k b inv.1 c.byte-at.type-inv,
-      below_more (λ i. At i (get_or (set bytes k b) i 0)) k (λ i l. subst (At i) (same i l) (inv.2 i l)) (subst (At k) new c.byte-at.ensures.byte),
-      below_more (λ i. By i (get_or (set bytes k b) i 0)) k (λ i l. subst (By i) (same i l) (inv.3 i l)) (subst (By k) new c.byte-at.ensures.weighed),
+      bytes_set bytes k b inv.1 c.byte_at.type_inv,
+      below_more (λ i. At i (get_or (set bytes k b) i 0)) k (λ i l. subst (At i) (same i l) (inv.2 i l)) (subst (At k) new c.byte_at.ensures.byte),
+      below_more (λ i. By i (get_or (set bytes k b) i 0)) k (λ i l. subst (By i) (same i l) (inv.3 i l)) (subst (By k) new c.byte_at.ensures.weighed),
       λ i l. get_or-set_other bytes k i b 0 (λ e. omega arith) ∙ inv.4 i (omega arith),
     )
 
@@ -42,7 +42,7 @@ returns c =
       bytes = inv.1;
       meets =
           interpolated places.len places.count places.list (record { within = places.within; rising = places.rising })
-          c.args.sequence.now c.told-sequence c.fits-sequence c.polynomial-of-p.result c.polynomial-of-p.ensures places.room
+          c.args.sequence.now c.told-sequence c.fits-sequence c.polynomial_of-p.result c.polynomial_of-p.ensures places.room
           c.loop-k.bytes (λ k l. inv.3 k (omega arith));
       each = λ k l. inv.2 k (omega arith);
       spare = λ k l. inv.4 k (omega arith);

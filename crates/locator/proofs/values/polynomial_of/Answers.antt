@@ -2,8 +2,8 @@ use Rattle.std.proofs.Common.{add-one, arith}
 use Rattle.locator.proofs.Widening.{vanishes_none, vanishes_more}
 use Rattle.locator.proofs.values.polynomial_of.Goals as goal
 
-pub overflow-sub-places : goal.overflow-sub-places
-overflow-sub-places c = omega (arith, c.args.places.now.within c.loop-m.m (omega arith))
+pub overflow_sub-places : goal.overflow_sub-places
+overflow_sub-places c = omega (arith, c.args.places.now.within c.loop-m.m (omega arith))
 
 pub loop-m-init : goal.loop-m-init
 loop-m-init c = vanishes_none c.args.places.now.len c.args.places.now.list

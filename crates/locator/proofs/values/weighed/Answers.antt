@@ -43,9 +43,9 @@ loop-j-preserved c =
           ∙ rw (c.product-in-loop-j.ensures, made, paired-so-far) (sym (dot_more q s j (omega arith) (omega arith))),
       c.sum-value.ensures
           ∙ rw (c.product-in-loop-j-2.ensures, made, value-so-far) (sym (horner_more q x j (omega arith))),
-      c.sum-coefficient.type-inv,
-      c.sum-paired.type-inv,
-      c.sum-value.type-inv,
+      c.sum-coefficient.type_inv,
+      c.sum-paired.type_inv,
+      c.sum-value.type_inv,
     )
 
 pub returns : goal.returns

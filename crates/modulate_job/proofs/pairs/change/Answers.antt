@@ -1,4 +1,4 @@
 use Rattle.modulate_job.proofs.pairs.change.Goals as goal
 
-pub returns-in-err-at : goal.returns-in-err-at
-returns-in-err-at c = rw c.from-residual.ensures (λ n numbered. c.in-err-at.ensures n numbered.0)
+pub returns-in_err-at : goal.returns-in_err-at
+returns-in_err-at c = rw c.from_residual.ensures (λ n numbered. c.in_err-at.ensures n numbered.0)

@@ -4,5 +4,5 @@ use Rattle.parity.proofs.register.block_at.Goals as goal
 pub returns : goal.returns
 returns c =
     let xs = c.args.message.now in
-    block_bytes xs c.args.at c.requires (λ k. (c.type-inv.message k).fits) c.from-be-bytes.result
-    (block_number xs c.args.at c.requires c.from-be-bytes.result c.from-be-bytes.ensures)
+    block_bytes xs c.args.at c.requires (λ k. (c.type_inv.message k).fits) c.from_be_bytes.result
+    (block_number xs c.args.at c.requires c.from_be_bytes.result c.from_be_bytes.ensures)

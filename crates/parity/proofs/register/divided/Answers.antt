@@ -9,4 +9,4 @@ returns c =
     let n = length xs / 8 * 8 in
     let rest : length (drop n xs) ≤ length xs - n = rw (length-drop n xs) (omega arith) in
     rw (take_all (length xs - n) (drop n xs) rest, take-append-drop n xs) at
-    (c.fed-bytes.ensures (take n xs) (bytes_take n xs (λ k. (c.type-inv.message k).fits)) c.fed-blocks.ensures)
+    (c.fed_bytes.ensures (take n xs) (bytes_take n xs (λ k. (c.type_inv.message k).fits)) c.fed_blocks.ensures)

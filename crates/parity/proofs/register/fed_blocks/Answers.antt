@@ -11,5 +11,5 @@ loop-i-preserved c =
     let xs = c.args.message.now in
     let i = c.loop-i.i in
     let e : (i + 1) * 8 ≡ i * 8 + 8 = omega arith in
-    rw (e, take-add (i * 8) 8 xs, ← c.block-at.ensures)
-    (c.fed-block-register.ensures (take (i * 8) xs) (bytes_take (i * 8) xs (λ k. (c.type-inv.message k).fits)) c.loop-i.invariant)
+    rw (e, take-add (i * 8) 8 xs, ← c.block_at.ensures)
+    (c.fed_block-register.ensures (take (i * 8) xs) (bytes_take (i * 8) xs (λ k. (c.type_inv.message k).fits)) c.loop-i.invariant)

@@ -8,7 +8,7 @@ loop-byte-preserved c w f p =
     let xs = c.args.bytes.now in
     let i = c.loop-byte.byte-index in
     rw (take_more xs i 0 c.loop-byte-test.true, ← append_assoc)
-    (c.fed-register.ensures _ (bytes_append w (take i xs) f (bytes_take i xs (λ k. (c.type-inv.bytes k).fits))) (c.loop-byte.invariant w f p))
+    (c.fed-register.ensures _ (bytes_append w (take i xs) f (bytes_take i xs (λ k. (c.type_inv.bytes k).fits))) (c.loop-byte.invariant w f p))
 
 pub returns : goal.returns
 returns c w f p =

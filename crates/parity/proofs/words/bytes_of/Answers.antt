@@ -4,4 +4,4 @@ use Rattle.parity.proofs.words.bytes_of.Goals as goal
 
 pub returns : goal.returns
 unfolding bytes_of
-returns c = simp div-one c.to-be-bytes.ensures
+returns c = simp div-one c.to_be_bytes.ensures

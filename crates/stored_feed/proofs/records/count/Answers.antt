@@ -8,8 +8,8 @@ use Rattle.stored_feed.proofs.records.count.Goals as goal
 pub bounds-counts-file : goal.bounds-counts-file
 bounds-counts-file c = omega (arith, (c.requires Record c.loop-i.i c.loop-i-test.true).0)
 
-pub overflow-add-counts : goal.overflow-add-counts
-overflow-add-counts c =
+pub overflow_add-counts : goal.overflow_add-counts
+overflow_add-counts c =
     let below = count_below c.args.file.now c.loop-i.counts c.loop-i.i c.loop-i-test.true c.loop-i.invariant.1 (c.requires Length).1 in
     search rules
 

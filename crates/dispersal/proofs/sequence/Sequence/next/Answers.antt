@@ -3,11 +3,11 @@ use Rattle.dispersal.proofs.Places.{at_byte, after_byte, reached_on}
 use Rattle.dispersal.proofs.Windows.{passed, passed_below}
 use Rattle.dispersal.proofs.sequence.Sequence.next.Goals as goal
 
-pub overflow-add-self : goal.overflow-add-self
-overflow-add-self c = omega (arith, passed_below 8 104 c.args.self.now.window c.args.self.now.room)
+pub overflow_add-self : goal.overflow_add-self
+overflow_add-self c = omega (arith, passed_below 8 104 c.args.self.now.window c.args.self.now.room)
 
-pub invariant-of-self : goal.invariant-of-self
-invariant-of-self c =
+pub invariant_of-self : goal.invariant_of-self
+invariant_of-self c =
     let w = c.args.self.now.window in
     (passed_below 8 104 w c.args.self.now.room, (reached_on w (passed 8 104 w) 1 (after_byte w) c.args.self.now.reached, tt))
 

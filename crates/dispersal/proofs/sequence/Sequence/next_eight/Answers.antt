@@ -3,11 +3,11 @@ use Rattle.dispersal.proofs.Places.{at_eight, after_eight, reached_on}
 use Rattle.dispersal.proofs.Windows.{passed, passed_below}
 use Rattle.dispersal.proofs.sequence.Sequence.next_eight.Goals as goal
 
-pub overflow-add-self : goal.overflow-add-self
-overflow-add-self c = omega (arith, passed_below 64 48 c.args.self.now.window c.args.self.now.room)
+pub overflow_add-self : goal.overflow_add-self
+overflow_add-self c = omega (arith, passed_below 64 48 c.args.self.now.window c.args.self.now.room)
 
-pub invariant-of-self : goal.invariant-of-self
-invariant-of-self c =
+pub invariant_of-self : goal.invariant_of-self
+invariant_of-self c =
     let w = c.args.self.now.window in
     (passed_below 64 48 w c.args.self.now.room, (reached_on w (passed 64 48 w) 8 (after_eight w) c.args.self.now.reached, tt))
 

@@ -22,7 +22,7 @@ loop-m-preserved c =
           simp (x.byte_is, add-one) (
             x.sum-byte.ensures
                 ∙ rw inv.0 (sym (byte_here c.loop-m.m c.args.place list values w x.if-self-m.true (omega arith))),
-            x.sum-byte.type-inv,
+            x.sum-byte.type_inv,
           )
       | else-self-m x ↦
           simp (x.byte_is, add-one) (

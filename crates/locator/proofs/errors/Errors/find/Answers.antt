@@ -17,46 +17,46 @@ returns-then-places-locator c =
     let n = c.args.len in
     let count = c.of-places.result.count in
     let list = c.of-places.result.list in
-    let values = c.bytes-at-values.result in
-    let locator = c.in-ok-locator.locator in
-    let locates = c.in-ok-locator.ensures in
+    let values = c.bytes_at-values.result in
+    let locator = c.in_ok-locator.locator in
+    let locates = c.in_ok-locator.ensures in
     let roots = c.of-places.ensures.roots in
     let same : count ≡ locator.degree = c.if-places-locator.true in
     let meets : Meets s n count list values
-    = subst (λ (m : ℕ). Meets s m count list values) c.of-places.ensures.len c.bytes-at-values.ensures.meets in
+    = subst (λ (m : ℕ). Meets s m count list values) c.of-places.ensures.len c.bytes_at-values.ensures.meets in
     record {
       places_size = roots.size;
-      values_size = c.bytes-at-values.ensures.size;
-      bytes = c.bytes-at-values.ensures.bytes;
+      values_size = c.bytes_at-values.ensures.size;
+      bytes = c.bytes_at-values.ensures.bytes;
       room = omega (arith, roots.room, locates.few);
       order = roots.order;
       codeword = λ short w size f v.
-          codeword_left n count list values roots.order w size s c.told-syndromes f c.bytes-at-values.ensures.bytes v
+          codeword_left n count list values roots.order w size s c.told-syndromes f c.bytes_at-values.ensures.bytes v
           (extended n count list values s c.fits-syndromes locator.coefficients
           (subst (λ (d : ℕ). OfDegree 9 d locator.coefficients) (sym same) locates.shape) roots.only
           (λ i l. locates.annihilates i (omega (arith, c.told-syndromes))) (meets short));
       leads = λ short small w d near.
           leads_to s c.told-syndromes n c.args.bound short small w d near locator.coefficients locator.degree count list values locates roots
-          (bytes_in s c.of-places.result.len n count list values c.of-places.ensures.len c.bytes-at-values.ensures.each);
+          (bytes_in s c.of-places.result.len n count list values c.of-places.ensures.len c.bytes_at-values.ensures.each);
     }
 
 pub returns-else-places-locator : goal.returns-else-places-locator
 returns-else-places-locator c short small w d near =
     let count = c.of-places.result.count in
-    let locator = c.in-ok-locator.locator in
+    let locator = c.in_ok-locator.locator in
     let roots = c.of-places.ensures.roots in
     c.if-places-locator.false (omega (
       arith,
       roots.room,
       as_many c.args.syndromes.now c.told-syndromes c.args.len c.args.bound short small w d near locator.coefficients
-          locator.degree count c.of-places.result.list c.bytes-at-values.result c.in-ok-locator.ensures roots
-          (bytes_in c.args.syndromes.now c.of-places.result.len c.args.len count c.of-places.result.list c.bytes-at-values.result
-          c.of-places.ensures.len c.bytes-at-values.ensures.each),
+          locator.degree count c.of-places.result.list c.bytes_at-values.result c.in_ok-locator.ensures roots
+          (bytes_in c.args.syndromes.now c.of-places.result.len c.args.len count c.of-places.result.list c.bytes_at-values.result
+          c.of-places.ensures.len c.bytes_at-values.ensures.each),
     ))
 
-pub returns-in-err-locator : goal.returns-in-err-locator
-returns-in-err-locator c =
-    rw c.from-residual.ensures
+pub returns-in_err-locator : goal.returns-in_err-locator
+returns-in_err-locator c =
+    rw c.from_residual.ensures
     (λ short small w d near.
     not_too_many c.args.syndromes.now c.told-syndromes c.args.len c.args.bound short small w d near
-    c.in-err-locator.ensures)
+    c.in_err-locator.ensures)

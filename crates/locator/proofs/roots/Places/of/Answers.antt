@@ -19,21 +19,21 @@ loop-k-preserved c =
     = record { size = locator.size; room = locator.room; bytes = locator.bytes; top = locator.top; lead = locator.lead } in
     let inside : k < n = omega arith in
     let far : n ≤ k + 255 = omega arith in
-    let at : get_or c.values-at-powers-values.result (n - 1 - k) 0 ≡ polynomial 9 locator.coefficients (place n k)
-    = c.values-at-powers-values.ensures.at (n - 1 - k) (omega arith) (omega arith) in
+    let at : get_or c.values_at_powers-values.result (n - 1 - k) 0 ≡ polynomial 9 locator.coefficients (place n k)
+    = c.values_at_powers-values.ensures.at (n - 1 - k) (omega arith) (omega arith) in
     elim c.if-values-len-eq0.branch [
       | then-values-len-eq0 w ↦
           simp (w.count-is, add-one)
           (sought_found locator.coefficients locator.degree n k c.loop-k.count c.loop-k.list c.loop-k.invariant shape inside far
-          (get_or c.values-at-powers-values.result (n - 1 - k) 0) at w.if-values-len-eq0.true)
+          (get_or c.values_at_powers-values.result (n - 1 - k) 0) at w.if-values-len-eq0.true)
       | else-values-len-eq0 w ↦
           simp (w.count-is, add-one)
           (sought_same locator.coefficients locator.degree n k c.loop-k.count c.loop-k.list c.loop-k.invariant shape inside far
-          (get_or c.values-at-powers-values.result (n - 1 - k) 0) at w.if-values-len-eq0.false)
+          (get_or c.values_at_powers-values.result (n - 1 - k) 0) at w.if-values-len-eq0.false)
     ]
 
-pub invariant-of-result : goal.invariant-of-result
-invariant-of-result c =
+pub invariant_of-result : goal.invariant_of-result
+invariant_of-result c =
     let roots = searched c.args.locator.now.coefficients c.args.locator.now.degree c.args.len c.loop-k.k
     c.loop-k.count c.loop-k.list (omega arith) c.args.locator.now.room c.loop-k.invariant in
     (omega (arith, roots.room, c.args.locator.now.room), (roots.order.within, (roots.order.rising, tt)))

@@ -12,17 +12,17 @@ loop-word-preserved c =
     let texts : List (List ℕ) = map string_bytes words in
     let i = c.loop-word.word-index in
     let word = c.word-item.result in
-    let flag = c.in-ok-sort-in.field-0 in
+    let flag = c.in_ok-sort_in.field-0 in
     let within : i < length texts = rw length-map c.loop-word-test.true in
     let after : c.if-branch.progress ≡ cond flag true c.loop-word.progress =
     elim c.if-branch.branch [
       | then-branch w ↦ w.progress-is ∙ ap (λ (b : Bool). cond b true c.loop-word.progress) (sym w.if-branch.true)
       | else-branch w ↦ w.progress-is ∙ ap (λ (b : Bool). cond b true c.loop-word.progress) (sym w.if-branch.false)
     ] in
-    sorted_more texts i (string_bytes word) (map string_bytes (vec_items c.loop-word.asked)) (map string_bytes (vec_items c.sort-in.new.asked))
+    sorted_more texts i (string_bytes word) (map string_bytes (vec_items c.loop-word.asked)) (map string_bytes (vec_items c.sort_in.new.asked))
     flag c.loop-word.progress c.if-branch.progress within
     (text_at words i word (string_bytes word) c.loop-word-test.true c.word-item.is refl) c.loop-word.invariant
-    c.in-ok-sort-in.ensures.flag c.in-ok-sort-in.ensures.asked after
+    c.in_ok-sort_in.ensures.flag c.in_ok-sort_in.ensures.asked after
 
 pub returns : goal.returns
 returns c =

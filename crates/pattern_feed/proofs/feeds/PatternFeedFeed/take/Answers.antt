@@ -18,16 +18,16 @@ returns-then-waiting-eq0 c =
 pub bounds-self-index : goal.bounds-self-index
 bounds-self-index c = (some_waits c.args.self.now c.args.stream (omega arith)).stream
 
-pub overflow-add-self : goal.overflow-add-self
-overflow-add-self c =
+pub overflow_add-self : goal.overflow_add-self
+overflow_add-self c =
     let some = some_waits c.args.self.now c.args.stream (omega arith) in
     let short = c.args.self.now.short c.args.stream in search rules
 
 pub bounds-self-index-2 : goal.bounds-self-index-2
 bounds-self-index-2 c = (some_waits c.args.self.now c.args.stream (omega arith)).stream
 
-pub invariant-of-self : goal.invariant-of-self
-invariant-of-self c =
+pub invariant_of-self : goal.invariant_of-self
+invariant_of-self c =
     let some = some_waits c.args.self.now c.args.stream (omega arith) in (
       (simp length-set c.args.self.now.shaped.0, c.args.self.now.shaped.1),
       (still_within c.args.self.now c.args.stream some.within some.below, (c.args.self.now.short, tt)),
@@ -38,7 +38,7 @@ returns c =
     let some = some_waits c.args.self.now c.args.stream (omega arith) in
     record {
       took = moved c.args.self.now.next c.args.self.now.counts c.args.stream c.args.to.now
-          c.write-packet.new.to some.within some.below c.write-packet.ensures;
+          c.write_packet.new.to some.within some.below c.write_packet.ensures;
       kept = λ none. let z : ◌≡◌ {A = ℕ} 0 1 = cc in absurd (omega (arith, z));
       formed = c.waiting.ensures.formed;
     }

@@ -3,20 +3,20 @@ use Rattle.slot_plan.proofs.Checked.{valid_from, spare_first}
 use Rattle.slot_plan.proofs.fields.Fields.check.Goals as goal
 use Rattle.slot_plan.proofs.fields.Fields.check.Goals.{then-self-ge-CONTROL-END-via-then-self-ge-CONTROL-END, then-self-ge-CONTROL-END-via-else-self-ge-CONTROL-END+then-self-ge-EXPANDED-END}
 
-pub returns-then-self-ge-CONTROL-END : goal.returns-then-self-ge-CONTROL-END
-returns-then-self-ge-CONTROL-END c =
-    spare_first c.args.self.now (c.if-self-lt1.false, c.if-self-gt-MOST-SLOTS.false) c.in-default.ensures
-    c.in-default-wrong-count.ensures (c.if-not-sum-is-right.ensures.0 refl) c.in-default-wrong-stream.ensures
+pub returns-then-self-ge-CONTROL_END : goal.returns-then-self-ge-CONTROL_END
+returns-then-self-ge-CONTROL_END c =
+    spare_first c.args.self.now (c.if-self-lt1.false, c.if-self-gt-MOST_SLOTS.false) c.in_default.ensures
+    c.in_default-wrong_count.ensures (c.if-not-sum_is_right.ensures.0 refl) c.in_default-wrong_stream.ensures
     (λ spare.
-    elim c.then-self-ge-CONTROL-END.branch [
+    elim c.then-self-ge-CONTROL_END.branch [
       | then-self-ge-CONTROL-END-via-then-self-ge-CONTROL-END w ↦
-          omega (arith, spare.0, w.if-self-ge-CONTROL-END.true)
+          omega (arith, spare.0, w.if-self-ge-CONTROL_END.true)
       | then-self-ge-CONTROL-END-via-else-self-ge-CONTROL-END+then-self-ge-EXPANDED-END w ↦
-          omega (arith, spare.1, w.if-self-ge-EXPANDED-END.true)
+          omega (arith, spare.1, w.if-self-ge-EXPANDED_END.true)
     ])
 
 pub returns : goal.returns
 returns c =
-    valid_from c.args.self.now (c.if-self-lt1.false, c.if-self-gt-MOST-SLOTS.false) c.in-default.ensures
-    c.in-default-wrong-count.ensures (c.if-not-sum-is-right.ensures.0 refl) c.in-default-wrong-stream.ensures
-    (c.if-self-ge-CONTROL-END.false, c.if-self-ge-EXPANDED-END.false)
+    valid_from c.args.self.now (c.if-self-lt1.false, c.if-self-gt-MOST_SLOTS.false) c.in_default.ensures
+    c.in_default-wrong_count.ensures (c.if-not-sum_is_right.ensures.0 refl) c.in_default-wrong_stream.ensures
+    (c.if-self-ge-CONTROL_END.false, c.if-self-ge-EXPANDED_END.false)

@@ -1,5 +1,5 @@
 use Rattle.std.proofs.Common.{rules}
 use Rattle.slot_plan.proofs.plan.Plan.new.Goals as goal
 
-pub invariant-of-result : goal.invariant-of-result
-invariant-of-result c = (search rules, (∣ c.in-ok-check.ensures ∣₁, tt))
+pub invariant_of-result : goal.invariant_of-result
+invariant_of-result c = (search rules, (∣ c.in_ok-check.ensures ∣₁, tt))

@@ -28,8 +28,8 @@ bounds-self-index-3 c = some_waits c.args.self.now c.args.stream (omega arith)
 pub bounds-self-index-4 : goal.bounds-self-index-4
 bounds-self-index-4 c = some_waits c.args.self.now c.args.stream (omega arith)
 
-pub invariant-of-self : goal.invariant-of-self
-invariant-of-self c =
+pub invariant_of-self : goal.invariant_of-self
+invariant_of-self c =
     let stream = some_waits c.args.self.now c.args.stream (omega arith) in
     let f = c.args.self.now in (
       (simp length-set f.shaped.0, simp length-set f.shaped.1),
@@ -58,8 +58,8 @@ returns c =
     let size : (start + 188) - start ≡ 188 = omega arith in
     record {
       took = moved f.file.now f.cursors c.args.stream c.in-Some.found (omega arith) c.in-Some.ensures.1
-          c.args.to.now c.copy-from-slice.new.self
-          (c.copy-from-slice.ensures.after
+          c.args.to.now c.copy_from_slice.new.self
+          (c.copy_from_slice.ensures.after
           ∙ ap (λ (n : ℕ). take n (drop start f.file.now)) size);
       kept = λ none. let z : ◌≡◌ {A = ℕ} 0 1 = cc in absurd (omega (arith, z));
       formed = c.waiting.ensures.formed;

@@ -9,8 +9,8 @@ use Rattle.stored_feed.proofs.state.StoredFeed.empty.Goals as goal
 none : (r first : ℕ) → packets_from [] r first ≡ []
 none r first = from_end [] r first (omega arith)
 
-pub invariant-of-result : goal.invariant-of-result
-invariant-of-result c = (
+pub invariant_of-result : goal.invariant_of-result
+invariant_of-result c = (
   (refl, refl),
   (
     (λ k. omega arith),

@@ -4,16 +4,16 @@ use Rattle.stored_feed.specs.declared.fault.PacketFileFault.TheVariants.{Length,
 use Rattle.stored_feed.proofs.Zeros.{zeros_at}
 use Rattle.stored_feed.proofs.state.StoredFeed.open.Goals as goal
 
-pub invariant-of-self : goal.invariant-of-self
-invariant-of-self c =
+pub invariant_of-self : goal.invariant_of-self
+invariant_of-self c =
     let file = c.args.file.now in (
       (refl, c.count.ensures.streams),
       (
-        (λ k. omega (arith, c.type-inv.file k)),
+        (λ k. omega (arith, c.type_inv.file k)),
         (
-          (c.in-ok-check.ensures Length).1,
+          (c.in_ok-check.ensures Length).1,
           (
-            c.in-ok-check.ensures Record,
+            c.in_ok-check.ensures Record,
             ((λ r. c.count.ensures.counted r ∙ ap (λ (n : ℕ). length (packets_from file r n)) (sym (zeros_at 8 r))), tt),
           ),
         ),
