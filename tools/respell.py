@@ -28,7 +28,7 @@ def respelt(w):
     if w in EXCEPT:
         return EXCEPT[w]
     w2 = w.replace('′', "'").replace('getD', 'get_or')
-    if '-' not in w2:
+    if '-' not in w2 and not re.match(r'[A-Z][a-z0-9]*_', w2):
         return w2
     if re.match(r"[A-Z][a-z0-9]", w2) or re.match(r'[A-Z]-', w2):
         return camel(w2)
