@@ -5,13 +5,12 @@
 #
 #     run.sh [ARCHIVE...]
 #
-# Where no archive is named, `rt staticlib` makes the library, and the kit's C part is linked beside it.
+# Where no archive is named, `rt lib` makes the library.
 set -eu
 top=$(cd "$(dirname "$0")/.." && pwd)
 if [ $# -eq 0 ]; then
-    (cd "$top" && rt staticlib rondvysti_bench)
-    kit=$(dirname "$(dirname "$(rt doc)")")
-    set -- "$top/target/staticlib/librondvysti_bench.a" "$kit/lib/librattle_c.a"
+    (cd "$top/crates/rondvysti_bench" && rt lib)
+    set -- "$top/crates/rondvysti_bench/out/librondvysti_bench.a"
 fi
 scratch=$(mktemp -d)
 trap 'rm -rf "$scratch"' EXIT

@@ -4,13 +4,12 @@
 #
 #     run.sh [ARCHIVE...]
 #
-# Where no archive is named, `rt staticlib` makes the library, and the kit's C part is linked beside it.
+# Where no archive is named, `rt lib` makes the library.
 set -eu
 top=$(cd "$(dirname "$0")/../.." && pwd)
 if [ $# -eq 0 ]; then
-    (cd "$top" && rt staticlib rondvysti)
-    kit=$(dirname "$(dirname "$(rt doc)")")
-    set -- "$top/target/staticlib/librondvysti.a" "$kit/lib/librattle_c.a"
+    (cd "$top/crates/rondvysti" && rt lib)
+    set -- "$top/crates/rondvysti/out/librondvysti.a"
 fi
 scratch=$(mktemp -d)
 trap 'rm -rf "$scratch"' EXIT
