@@ -1,5 +1,5 @@
 -- What a refusal says of a file. Assumes nothing.
-use Rattle.std.proofs.Common.{◌≡◌, ℕ, List, refl}
+use Rattle.std.proofs.Common.{ℕ, List, refl}
 use Rattle.slot_plan.specs.Faults.{First}
 use Rattle.plan_formats.specs.Faults.{file_rank, FilePasses}
 use Rattle.plan_formats.specs.declared.fault.FileFault.{FileFault}

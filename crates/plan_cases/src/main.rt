@@ -1,4 +1,6 @@
 // Holds the library to stored cases whose answers come from elsewhere.
+#![tactic(auto)]
+
 mod hex;
 mod plans;
 mod tmcc;

@@ -1,9 +1,8 @@
 -- What reading a plan answers, from what its parts answer. Assumes nothing.
-use Rattle.std.proofs.Common.{◌≡◌, ℕ, ◌<◌, ◌≤◌, List, sym, subst, arith}
+use Rattle.std.proofs.Common.{ℕ, ◌<◌, List, subst}
 use Rattle.slot_plan.specs.Faults.{First, rank}
 use Rattle.slot_plan.specs.Rules.{Passes}
 use Rattle.slot_plan.specs.declared.fault.PlanFault.{PlanFault}
-use Rattle.slot_plan.specs.declared.fault.PlanFault.TheVariants.{SlotCount, ModeWord, LineCount, CountSum, SlotStream, SpareBits}
 use Rattle.slot_plan.specs.declared.fields.Fields.{Fields}
 use Rattle.plan_formats.specs.Faults.{FilePasses, file_rank}
 use Rattle.plan_formats.specs.Formats.{PlanFile}

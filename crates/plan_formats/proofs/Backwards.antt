@@ -1,5 +1,5 @@
 -- What was written reads back. Assumes nothing.
-use Rattle.std.proofs.Common.{◌≡◌, ℕ, ◌^◌, ◌<◌, ◌≤◌, List, [], ◌∷◌, take, Ok, Err, sym, ◌∙◌, subst, arith}
+use Rattle.std.proofs.Common.{ℕ, ◌^◌, ◌<◌, ◌≤◌, List, [], ◌∷◌, take, Ok, Err, sym, ◌∙◌, subst, arith}
 use Rattle.slot_plan.specs.Rules.{Valid, Passes}
 use Rattle.slot_plan.specs.Faults.{First, number, rank}
 use Rattle.slot_plan.specs.declared.fault.PlanFault.{PlanFault}
@@ -9,7 +9,7 @@ use Rattle.plan_formats.specs.Bits.{Fit}
 use Rattle.plan_formats.specs.Body.{body, lines, numbers}
 use Rattle.plan_formats.specs.declared.body.Widths.{Widths}
 use Rattle.plan_formats.proofs.Joins.{fit_right}
-use Rattle.plan_formats.specs.Calls.{Read, FileReadsBack, Unpacked, TmccReadsBack, OnlyFile, OnlyData}
+use Rattle.plan_formats.specs.Calls.{FileReadsBack, TmccReadsBack, OnlyFile, OnlyData}
 use Rattle.plan_formats.specs.Faults.{FilePasses}
 use Rattle.plan_formats.specs.Formats.{Bytes, PlanFile, TmccData, tmcc_fields, tmcc_widths}
 use Rattle.plan_formats.specs.declared.fault.FileFault.{FileFault}

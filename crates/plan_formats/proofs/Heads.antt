@@ -1,14 +1,14 @@
 -- The first bytes of a plan file as fields. Assumes nothing.
-use Rattle.std.proofs.Common.{◌≡◌, ℕ, zero, suc, ◌+◌, ◌-◌, ◌*◌, ◌/◌, ◌%◌, ◌^◌, ◌<◌, ◌≤◌, List, [], ◌∷◌, length, get_or, sym, refl, ap, ◌∙◌, subst, arith}
+use Rattle.std.proofs.Common.{◌≡◌, ℕ, ◌+◌, ◌-◌, ◌*◌, ◌/◌, ◌%◌, ◌^◌, ◌<◌, List, [], ◌∷◌, length, get_or, sym, refl, ap, ◌∙◌, arith}
 use Rattle.slot_plan.specs.declared.fields.Fields.{Fields}
 use Rattle.plan_formats.specs.Bits.{Field, bit, front, joined, width, Fit, Holds}
 use Rattle.plan_formats.specs.Body.{body, body_width, Run}
 use Rattle.plan_formats.specs.Faults.{FilePasses}
-use Rattle.plan_formats.specs.Formats.{Bytes, file_widths, tmcc_widths, file_fields, tmcc_fields, PlanFile}
-use Rattle.plan_formats.specs.declared.fault.FileFault.TheVariants.{Mark, Version, Size}
-use Rattle.plan_formats.proofs.Joins.{run_one, run_append, run_none}
+use Rattle.plan_formats.specs.Formats.{Bytes, file_widths, tmcc_widths, file_fields, tmcc_fields}
+use Rattle.plan_formats.specs.declared.fault.FileFault.TheVariants.{Mark, Version}
+use Rattle.plan_formats.proofs.Joins.{run_append}
 use Rattle.plan_formats.proofs.Steps.{front_more}
-use Rattle.plan_formats.proofs.Unique.{eight, from_bits}
+use Rattle.plan_formats.proofs.Unique.{eight}
 
 -- a bit of byte k
 bit_at : (b : List ℕ) (k i : ℕ) → i < 8 → bit b (k * 8 + i) ≡ get_or b k 0 / 2 ^ (7 - i) % 2

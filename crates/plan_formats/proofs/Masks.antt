@@ -1,5 +1,5 @@
 -- What a byte is once a mask has made one of its bits 0 or 1: one test over every byte and place. Assumes nothing.
-use Rattle.std.proofs.Common.{◌≡◌, ℕ, zero, suc, ◌-◌, ◌/◌, ◌%◌, ◌^◌, ◌<◌, ◌≤◌, Bool, true, false, ◌&&◌, eqb, sym, refl, subst, ⊎_elim, arith}
+use Rattle.std.proofs.Common.{◌≡◌, ℕ, zero, suc, ◌-◌, ◌/◌, ◌%◌, ◌^◌, ◌<◌, Bool, true, false, ◌&&◌, eqb, sym, refl, subst, ⊎_elim, arith}
 use lib.Bits.{bit_and, bit_or}
 use mir.Val.{bool_byte}
 use Rattle.std.proofs.lemmas.Bool.{and_parts, eqb-true, cases_eq}

@@ -1,5 +1,5 @@
 -- Places of numbers of one width, one after the other. Assumes nothing.
-use Rattle.std.proofs.Common.{◌≡◌, ℕ, ◌+◌, ◌*◌, ◌^◌, ◌<◌, ◌≤◌, sym, ◌∙◌, subst, inl, inr, mul-le-mul_left, mul-suc, add-one, arith, pow_mono}
+use Rattle.std.proofs.Common.{◌≡◌, ℕ, ◌+◌, ◌*◌, ◌^◌, ◌<◌, ◌≤◌, sym, subst, inl, inr, mul-le-mul_left, mul-suc, add-one, arith, pow_mono}
 use Rattle.std.proofs.lemmas.Bool.{cases_lt}
 
 pub place_more : (start width i place : ℕ) → place ≡ start + width * i → place + width ≡ start + width * (i + 1)

@@ -1,10 +1,10 @@
 -- What the rules of a plan say of its numbers in a format. Assumes nothing.
-use Rattle.std.proofs.Common.{◌≡◌, ℕ, zero, suc, ◌+◌, ◌-◌, ◌*◌, ◌^◌, ◌<◌, ◌≤◌, List, length, get_or, sym, refl, ap, ◌∙◌, subst, inl, inr, arith}
+use Rattle.std.proofs.Common.{◌≡◌, ℕ, zero, suc, ◌-◌, ◌^◌, ◌<◌, ◌≤◌, List, get_or, sym, ap, ◌∙◌, inl, inr, arith}
 use Rattle.std.proofs.lemmas.List.{get_or_past}
 use Rattle.std.proofs.lemmas.Bool.{cases_lt, cases_eq}
-use Rattle.slot_plan.specs.Layout.{Shaped, word, count, stream}
+use Rattle.slot_plan.specs.Layout.{Shaped, word}
 use Rattle.slot_plan.specs.Rules.{Valid, unused}
-use Rattle.slot_plan.specs.declared.fault.PlanFault.TheVariants.{SlotCount, ModeWord, LineCount, CountSum, SlotStream, SpareBits}
+use Rattle.slot_plan.specs.declared.fault.PlanFault.TheVariants.{SlotCount, ModeWord, CountSum, SlotStream, SpareBits}
 use Rattle.slot_plan.specs.declared.fields.Fields.{Fields}
 use Rattle.plan_formats.specs.Body.{Small}
 use Rattle.plan_formats.specs.Formats.{tmcc_widths}

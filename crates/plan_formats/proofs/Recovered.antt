@@ -1,10 +1,10 @@
 -- A plan's fields from the numbers of a format. Assumes nothing.
-use Rattle.std.proofs.Common.{◌≡◌, ℕ, zero, suc, ◌+◌, ◌-◌, ◌*◌, ◌^◌, ◌<◌, ◌≤◌, List, [], ◌∷◌, ◌++◌, length, get_or, take, drop, sym, refl, ap, ◌∙◌, subst, inl, inr, arith}
+use Rattle.std.proofs.Common.{◌≡◌, ℕ, zero, suc, ◌+◌, ◌*◌, ◌<◌, ◌≤◌, List, [], ◌∷◌, ◌++◌, length, get_or, take, drop, sym, refl, ap, ◌∙◌, subst, inl, inr, arith}
 use Rattle.std.proofs.lemmas.List.{ext_get_or, take_at, drop_at, take_all, length-take-le, get_or-take}
 use Rattle.std.proofs.lemmas.Bool.{cases_lt}
 use Rattle.slot_plan.specs.Layout.{Shaped}
 use Rattle.slot_plan.specs.declared.fields.Fields.{Fields}
-use Rattle.plan_formats.specs.Bits.{Field, front, joined, width, Fit, Holds}
+use Rattle.plan_formats.specs.Bits.{Field, front, joined, width, Fit}
 use Rattle.plan_formats.specs.Body.{body, body_width, lines, numbers}
 use Rattle.plan_formats.specs.Formats.{file_widths, tmcc_widths, file_fields, tmcc_fields, PlanFile, TmccData}
 use Rattle.plan_formats.specs.declared.body.Widths.{Widths}

@@ -1,5 +1,5 @@
 -- A number read or written bit by bit. Assumes nothing.
-use Rattle.std.proofs.Common.{◌≡◌, ℕ, zero, suc, ◌+◌, ◌-◌, ◌*◌, ◌/◌, ◌%◌, ◌^◌, ◌<◌, ◌≤◌, eqb, List, sym, refl, ap, ◌∙◌, add_assoc, mul_assoc, mul_comm, add-mul, add-one, arith}
+use Rattle.std.proofs.Common.{◌≡◌, ℕ, zero, suc, ◌+◌, ◌*◌, ◌/◌, ◌%◌, ◌^◌, ◌<◌, eqb, List, sym, refl, ap, ◌∙◌, mul_assoc, mul_comm, add-one, arith}
 use lib.Bits.{bit_and, bit_or}
 use mir.Val.{bool_byte}
 use Rattle.std.proofs.lemmas.Nat.{mod_below, pow-add, shr-shr, div-add-mod', shl_whole, or_shifted, and_mask, div_below}

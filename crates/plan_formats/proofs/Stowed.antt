@@ -1,12 +1,9 @@
 -- A kept plan is the one that was packed. Assumes nothing.
-use Rattle.std.proofs.Common.{◌≡◌, ℕ, ◌+◌, ◌*◌, ◌^◌, ◌<◌, List, length, get_or, Result, sym, refl, ap, ◌∙◌, subst, arith}
-use Rattle.slot_plan.specs.Rules.{Valid}
-use Rattle.slot_plan.specs.declared.fault.PlanFault.{PlanFault}
+use Rattle.std.proofs.Common.{◌≡◌, ℕ, ◌*◌, List, length, sym, ap, ◌∙◌, arith}
 use Rattle.slot_plan.specs.declared.fields.Fields.{Fields}
-use Rattle.plan_formats.specs.Bits.{front, joined, width, Fit, Holds}
+use Rattle.plan_formats.specs.Bits.{front, width}
 use Rattle.plan_formats.specs.Body.{numbers, Run}
-use Rattle.plan_formats.specs.Calls.{Unpacked}
-use Rattle.plan_formats.specs.Formats.{tmcc_fields, TmccData, Bytes}
+use Rattle.plan_formats.specs.Formats.{tmcc_fields, TmccData}
 use Rattle.plan_formats.specs.Kept.{Keeps}
 use Rattle.plan_formats.proofs.Recovered.{joined_same, width_tmcc}
 

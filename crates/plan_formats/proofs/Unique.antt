@@ -1,9 +1,9 @@
 -- Bits determine fields of known widths, and fields determine their bytes. Assumes nothing.
-use Rattle.std.proofs.Common.{◌≡◌, ℕ, zero, suc, ◌+◌, ◌-◌, ◌*◌, ◌/◌, ◌%◌, ◌^◌, ◌<◌, ◌≤◌, true, eqb, List, [], ◌∷◌, ◌++◌, length, get_or, sym, refl, ap, ◌∙◌, subst, inl, inr, arith}
-use Rattle.std.proofs.lemmas.Nat.{shr_high, mod_low, mod_below}
+use Rattle.std.proofs.Common.{◌≡◌, ℕ, zero, suc, ◌+◌, ◌-◌, ◌*◌, ◌/◌, ◌%◌, ◌^◌, ◌<◌, true, eqb, List, [], ◌∷◌, ◌++◌, length, get_or, sym, refl, ap, ◌∙◌, subst, inl, inr, arith}
+use Rattle.std.proofs.lemmas.Nat.{shr_high, mod_low}
 use Rattle.std.proofs.lemmas.List.{ext_get_or}
 use Rattle.std.proofs.lemmas.Bool.{cases_lt, eqb-true}
-use Rattle.plan_formats.specs.Bits.{Field, bit, front, joined, width, Fit, Holds}
+use Rattle.plan_formats.specs.Bits.{Field, bit, front, joined, Fit, Holds}
 use Rattle.plan_formats.specs.Body.{numbers}
 use Rattle.plan_formats.specs.Formats.{Bytes}
 use Rattle.plan_formats.proofs.Steps.{bit_below}

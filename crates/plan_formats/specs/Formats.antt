@@ -1,5 +1,5 @@
 -- The two formats of a slot plan: the station's plan file and the TMCC data. Assumes nothing.
-use Rattle.std.specs.Prelude.{◌≡◌, ℕ, ◌+◌, ◌<◌, ◌≤◌, List, ◌∷◌, slice_index}
+use Rattle.std.specs.Prelude.{◌≡◌, ℕ, ◌<◌, ◌≤◌, List, ◌∷◌, slice_index}
 use Rattle.slot_plan.specs.Layout.{Shaped}
 use Rattle.slot_plan.specs.declared.fields.Fields.{Fields}
 use Rattle.plan_formats.specs.Bits.{Field, Holds}

@@ -102,7 +102,7 @@ pub fn write_plan_into(plan: &Plan, out: &mut [u8; 87]) -> usize
 {
     let fields = plan.fields();
     let len = FIXED + plan.slots() as usize;
-    write_file(&mut out[0..len], &fields);
+    write_file(&mut out[0..len], fields);
     len
 }
 
@@ -114,6 +114,6 @@ pub fn write_plan(heap: Global, plan: &Plan) -> Result<Vec<u8>, AllocError>
 {
     let fields = plan.fields();
     let mut file = vec![in heap; 0; FIXED + fields.slots as usize]?;
-    write_file(file.as_mut_slice(), &fields);
+    write_file(file.as_mut_slice(), fields);
     Ok(file)
 }

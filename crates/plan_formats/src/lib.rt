@@ -1,4 +1,6 @@
 // How a slot plan is written: as a station's plan file, as the TMCC data, and packed for keeping.
+#![tactic(auto)]
+
 mod bits;
 mod body;
 mod fault;

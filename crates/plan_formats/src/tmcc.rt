@@ -65,7 +65,7 @@ impl Tmcc {
         ensures only { OnlyData result self.now.order.value self.now.plan.fields }
     {
         let mut bytes = no_data();
-        write_data(&mut bytes, self.order.value(), &self.plan.fields());
+        write_data(&mut bytes, self.order.value(), self.plan.fields());
         bytes
     }
 

@@ -1,4 +1,6 @@
 // The listing of a plan file, for whoever wants to read one.
+#![tactic(auto)]
+
 mod lines;
 mod listing;
 

@@ -1,4 +1,6 @@
 // Prints the listing of the plan file on standard input.
+#![tactic(auto)]
+
 use plan_listing::list_file;
 use std::io::Read;
 

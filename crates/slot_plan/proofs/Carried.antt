@@ -1,10 +1,10 @@
 -- Each slot of a valid frame lies in a used line. Assumes nothing.
-use Rattle.std.proofs.Common.{◌≡◌, ℕ, zero, suc, ◌+◌, ◌-◌, ◌<◌, ◌≤◌, true, false, cond, ltb, ◌≢◌, ◌⊎◌, List, [], ◌∷◌, length, get_or, sym, refl, ap, ◌∙◌, subst, inl, inr, ⊎_elim, arith}
+use Rattle.std.proofs.Common.{◌≡◌, ℕ, zero, suc, ◌+◌, ◌-◌, ◌<◌, ◌≤◌, ltb, ◌≢◌, List, [], ◌∷◌, length, get_or, sym, refl, ap, ◌∙◌, ⊎_elim, arith}
 use Rattle.std.proofs.lemmas.Bool.{cases_eq, cond_both, ltb-true, ltb-false}
-use Rattle.slot_plan.specs.Layout.{word, count, word_among, mode_word}
+use Rattle.slot_plan.specs.Layout.{word, word_among, mode_word}
 use Rattle.slot_plan.specs.Modes.{word_of}
-use Rattle.slot_plan.specs.Rules.{Valid, ModeRule, CountRule, SumRule, unused}
-use Rattle.slot_plan.specs.declared.fault.PlanFault.TheVariants.{SlotCount, ModeWord, LineCount, CountSum, SlotStream, SpareBits}
+use Rattle.slot_plan.specs.Rules.{Valid, CountRule, unused}
+use Rattle.slot_plan.specs.declared.fault.PlanFault.TheVariants.{ModeWord, LineCount, CountSum}
 use Rattle.slot_plan.specs.declared.fields.Fields.{Fields}
 use Rattle.slot_plan.specs.declared.mode.Mode.{Mode}
 use Rattle.slot_plan.specs.declared.mode.Mode.TheVariants.{Bpsk12, Qpsk12, Qpsk23, Qpsk34, Qpsk56, Qpsk78, Tc8psk23}

@@ -1,8 +1,8 @@
 -- That every check passes: made from the checks one by one, and taken from a plan. Assumes nothing.
-use Rattle.std.proofs.Common.{◌≡◌, ℕ, ◌<◌, ◌≤◌, arith}
+use Rattle.std.proofs.Common.{ℕ, ◌<◌, ◌≤◌, arith}
 use mathlib.Core.Logic.{∥∥₁_elim}
-use std.HLevel.{Π_prop, ×_prop}
-use denote.Struct.Props.{props, three_prop}
+use mathlib.Core.HLevel.{Π_prop, ×_prop, ×₃_prop}
+use denote.Struct.Props.{props}
 use Rattle.slot_plan.specs.Faults.{First, rank}
 use Rattle.slot_plan.specs.Rules.{Passes, Valid, ModeRule, CountRule, StreamRule, DummyRule, TsIdRule}
 use Rattle.slot_plan.specs.declared.fault.PlanFault.{PlanFault}
@@ -53,7 +53,7 @@ passes_prop f (ModeWord line) = Π_prop (λ low. Π_prop (λ high. mode_prop f l
 passes_prop f (LineCount line) = Π_prop (λ low. Π_prop (λ high. count_prop f line))
 passes_prop f CountSum = hlevel props
 passes_prop f (SlotStream slot) =
-    Π_prop (λ low. Π_prop (λ high. ×_prop (Π_prop (λ h. three_prop (hlevel props) (dummy_prop f slot) (ts_id_prop f slot))) (hlevel props)))
+    Π_prop (λ low. Π_prop (λ high. ×_prop (Π_prop (λ h. ×₃_prop (hlevel props) (dummy_prop f slot) (ts_id_prop f slot))) (hlevel props)))
 passes_prop f SpareBits = hlevel props
 
 pub plan_valid : (p : Plan) → Valid p.fields

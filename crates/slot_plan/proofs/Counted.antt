@@ -9,9 +9,9 @@ pub up_to_more : (f : Fields) (slot : ℕ) → 1 ≤ slot → active_up_to f slo
 up_to_more f zero h = absurd (omega (arith, h))
 up_to_more f (suc n) h = ap (λ (m : ℕ). active_up_to f m + cond (active f (suc n)) 1 0) (omega arith)
 
-bool_byte : (b : Bool) → bool_byte b ≡ cond b 1 0
-bool_byte true = refl
-bool_byte false = refl
+byte_of : (b : Bool) → bool_byte b ≡ cond b 1 0
+byte_of true = refl
+byte_of false = refl
 
 -- one turn of a count: the active slots up to the one before, and one more if this one is active
 pub counted :
@@ -19,7 +19,7 @@ pub counted :
     n + more ≡ active_up_to f slot
 counted f slot n more b h before step same =
     let own : bool_byte b ≡ bool_byte (active f slot) = ap (λ (x : Bool). bool_byte x) same in
-    omega (arith, up_to_more f slot h, before, step, bool_byte (active f slot), own)
+    omega (arith, up_to_more f slot h, before, step, byte_of (active f slot), own)
 
 pub bool_byte_le : (b : Bool) (more : ℕ) → more ≡ bool_byte b → more ≤ 1
 bool_byte_le true more e = omega (arith, e)

@@ -1,5 +1,5 @@
 -- The refusals of a plan: their numbers, their places, and their ranks. Assumes nothing.
-use Rattle.std.specs.Prelude.{ℕ, ◌+◌, ◌*◌, ◌<◌}
+use Rattle.std.specs.Prelude.{ℕ, ◌+◌, ◌<◌}
 use Rattle.slot_plan.specs.declared.fault.PlanFault.{PlanFault}
 use Rattle.slot_plan.specs.declared.fault.PlanFault.TheVariants.{SlotCount, ModeWord, LineCount, CountSum, SlotStream, SpareBits}
 

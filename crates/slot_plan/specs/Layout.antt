@@ -1,5 +1,5 @@
 -- What the fields of a plan say of lines and slots. Lines count from 1 to 4 and slots from 1, as the plan's readers count them. Assumes nothing.
-use Rattle.std.specs.Prelude.{◌≡◌, ℕ, ◌-◌, ◌*◌, ◌/◌, ◌%◌, Bool, cond, List, [], ◌∷◌, length, nat_lt, slice_index}
+use Rattle.std.specs.Prelude.{◌≡◌, ℕ, ◌-◌, ◌%◌, Bool, cond, List, [], ◌∷◌, length, nat_lt, slice_index}
 use Rattle.slot_plan.specs.Modes.{unit, active_in_unit}
 use Rattle.slot_plan.specs.declared.fields.Fields.{Fields}
 

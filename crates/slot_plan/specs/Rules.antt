@@ -1,5 +1,5 @@
 -- The rules of a slot plan. Assumes nothing.
-use Rattle.std.specs.Prelude.{◌≡◌, ℕ, ◌+◌, ◌%◌, ◌^◌, ◌<◌, ◌≤◌, Bool, true, false, ◌≢◌}
+use Rattle.std.specs.Prelude.{◌≡◌, ℕ, ◌+◌, ◌%◌, ◌^◌, ◌<◌, ◌≤◌, true, false, ◌≢◌}
 use Rattle.slot_plan.specs.Modes.{unit}
 use Rattle.slot_plan.specs.Layout.{word, count, stream, ts_id, active}
 use Rattle.slot_plan.specs.declared.fault.PlanFault.{PlanFault}

@@ -49,9 +49,9 @@ impl Plan {
     }
 
     // The numbers that the plan is made of.
-    pub fn fields(&self) -> Fields
-        ensures { result ≡ self.now.fields }
+    pub fn fields(&self) -> &Fields
+        ensures { result.now ≡ self.now.fields }
     {
-        self.fields
+        &self.fields
     }
 }

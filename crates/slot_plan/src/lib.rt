@@ -1,4 +1,6 @@
 // The slot plan of a satellite channel: its fields, the rules that bind them, and what each slot carries.
+#![tactic(auto)]
+
 mod checks;
 mod fault;
 mod fields;

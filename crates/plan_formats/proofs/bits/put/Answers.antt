@@ -1,4 +1,4 @@
-use Rattle.std.proofs.Common.{◌≡◌, ℕ, ◌+◌, ◌-◌, ◌*◌, ◌/◌, ◌%◌, ◌^◌, sym, ap, ◌∙◌, add-zero, add_assoc, mul-one, arith}
+use Rattle.std.proofs.Common.{◌≡◌, ℕ, ◌+◌, ◌-◌, ◌*◌, ◌/◌, ◌%◌, ◌^◌, sym, ap, ◌∙◌, add-zero, add_assoc, arith}
 use Rattle.plan_formats.specs.Bits.{front}
 use Rattle.plan_formats.proofs.Steps.{bits_more, lowest_bit, shift_less, shift_out}
 use Rattle.plan_formats.proofs.bits.put.Goals as goal
@@ -19,9 +19,9 @@ loop-at-preserved c =
     let before : c.args.width - l.at ≡ k + 1 = omega arith in
     let after : c.args.width - (l.at + 1) ≡ k = omega arith in
     let was : front l.bytes (c.args.place + l.at) ≡ start * 2 ^ l.at + value / 2 ^ (k + 1) = rw (sym before) l.invariant in
-    let step : front c.set-bit.new.bytes (c.args.place + l.at + 1) ≡ (start * 2 ^ l.at + value / 2 ^ (k + 1)) * 2 + value / 2 ^ k % 2 =
-    c.set-bit.ensures ∙ omega (arith, was, lowest_bit (value / 2 ^ k)) in
+    let step : front c.set_bit.new.bytes (c.args.place + l.at + 1) ≡ (start * 2 ^ l.at + value / 2 ^ (k + 1)) * 2 + value / 2 ^ k % 2 =
+    c.set_bit.ensures ∙ omega (arith, was, lowest_bit (value / 2 ^ k)) in
     rw after
-    (ap (front c.set-bit.new.bytes) (sym (add_assoc c.args.place l.at 1)) ∙ step
+    (ap (front c.set_bit.new.bytes) (sym (add_assoc c.args.place l.at 1)) ∙ step
     ∙ bits_more start l.at (value / 2 ^ (k + 1)) (value / 2 ^ k % 2)
     ∙ ap (λ (x : ℕ). start * 2 ^ (l.at + 1) + x) (sym (shift_less value k)))

@@ -1,4 +1,4 @@
-use Rattle.std.proofs.Common.{Bool, true, false, sym, ap, ◌∙◌, arith}
+use Rattle.std.proofs.Common.{true, false, sym, ap, ◌∙◌, arith}
 use mir.Val.{bool_byte}
 use Rattle.plan_formats.proofs.Masks.{masked_here, masked_before}
 use Rattle.plan_formats.proofs.bits.with_bit.Goals as goal

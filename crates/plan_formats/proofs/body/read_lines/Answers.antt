@@ -1,6 +1,6 @@
-use Rattle.std.proofs.Common.{◌≡◌, ℕ, zero, suc, ◌+◌, ◌*◌, ◌^◌, ◌<◌, List, [], ◌∷◌, ◌++◌, get_or, refl, arith}
+use Rattle.std.proofs.Common.{ℕ, zero, suc, ◌+◌, ◌*◌, ◌^◌, ◌<◌, [], ◌∷◌, get_or, refl, arith}
 use Rattle.plan_formats.specs.Bits.{front}
-use Rattle.plan_formats.specs.Body.{lines, Run}
+use Rattle.plan_formats.specs.Body.{lines}
 use Rattle.plan_formats.proofs.Joins.{run_append, run_two}
 use Rattle.plan_formats.proofs.Placed.{fits_more}
 use Rattle.plan_formats.proofs.body.read_lines.Goals as goal

@@ -5,8 +5,8 @@ use Rattle.plan_formats.proofs.body.read_streams.Goals as goal
 
 pub loop-slot-init : goal.loop-slot-init
 loop-slot-init c =
-    reading_none 256 c.args.bytes.now c.args.start c.args.width 48 c.no-streams-numbers.result (omega arith)
-    c.no-streams-numbers.ensures.len c.no-streams-numbers.ensures.zeros
+    reading_none 256 c.args.bytes.now c.args.start c.args.width 48 c.no_streams-numbers.result (omega arith)
+    c.no_streams-numbers.ensures.len c.no_streams-numbers.ensures.zeros
 
 pub get-requires : goal.get-requires
 get-requires c =

@@ -1,7 +1,7 @@
-use Rattle.std.proofs.Common.{◌≡◌, ℕ, ◌+◌, ◌*◌, List, take, sym, arith}
+use Rattle.std.proofs.Common.{◌≡◌, ◌+◌, ◌*◌, take, arith}
 use Rattle.std.proofs.lemmas.List.{take_all}
 use Rattle.plan_formats.specs.Bits.{front}
-use Rattle.plan_formats.specs.Body.{numbers, Run}
+use Rattle.plan_formats.specs.Body.{numbers}
 use Rattle.plan_formats.proofs.Joins.{run_at}
 use Rattle.plan_formats.proofs.Placed.{place_within}
 use Rattle.plan_formats.proofs.Reading.{reading_none, reading_more}
@@ -9,8 +9,8 @@ use Rattle.plan_formats.proofs.body.read_ts_ids.Goals as goal
 
 pub loop-stream-init : goal.loop-stream-init
 loop-stream-init c =
-    reading_none 65536 c.args.bytes.now c.args.start 16 8 c.no-ts-ids-ids.result (omega arith)
-    c.no-ts-ids-ids.ensures.len c.no-ts-ids-ids.ensures.zeros
+    reading_none 65536 c.args.bytes.now c.args.start 16 8 c.no_ts_ids-ids.result (omega arith)
+    c.no_ts_ids-ids.ensures.len c.no_ts_ids-ids.ensures.zeros
 
 pub get-requires : goal.get-requires
 get-requires c =

@@ -1,16 +1,16 @@
-use Rattle.std.proofs.Common.{◌≡◌, ℕ, ◌+◌, ◌*◌, ◌^◌, ◌<◌, List, [], ◌∷◌, ◌++◌, sym, ap, ◌∙◌, arith}
+use Rattle.std.proofs.Common.{◌+◌, ◌*◌, ◌^◌, ap, ◌∙◌, arith}
 use Rattle.plan_formats.specs.Bits.{front}
-use Rattle.plan_formats.specs.Body.{body, body_width, lines, numbers, Run}
+use Rattle.plan_formats.specs.Body.{body, body_width}
 use Rattle.plan_formats.proofs.Joins.{run_one, run_append, run_at}
 use Rattle.plan_formats.proofs.Placed.{fits_narrow}
 use Rattle.plan_formats.proofs.body.write_body.Goals as goal
 
-pub write-lines-requires : goal.write-lines-requires
-write-lines-requires c =
+pub write_lines-requires : goal.write_lines-requires
+write_lines-requires c =
     record { within = omega arith; fits = (omega arith, (omega arith, omega arith)); numbers = (c.requires.small.words, c.requires.small.counts) }
 
-pub write-streams-requires : goal.write-streams-requires
-write-streams-requires c =
+pub write_streams-requires : goal.write_streams-requires
+write_streams-requires c =
     record { within = omega arith; fits = (omega arith, (omega arith, omega arith)); numbers = c.requires.small.streams }
 
 pub put-requires : goal.put-requires
@@ -31,7 +31,7 @@ returns c =
     let own-control = fits_narrow f.control w.control 8 (omega arith) (omega arith) c.requires.small.control in
     let own-expanded = fits_narrow f.expanded w.expanded 64 (omega arith) (grind arith) c.requires.small.expanded in
     let ids-start = c.args.start + 4 * (w.word + w.count) + w.stream * w.streams in
-    let before = front c.write-ts-ids.new.bytes (ids-start + 16 * 8) in
+    let before = front c.write_ts_ids.new.bytes (ids-start + 16 * 8) in
     let middle = front c.put.new.bytes (ids-start + 16 * 8 + w.control) in
     let control = run_one before (ids-start + 16 * 8) w.control f.control middle
     (c.put.ensures ∙ ap (λ n. before * 2 ^ w.control + n) c.from.ensures) own-control in
@@ -39,4 +39,4 @@ returns c =
     c.put-2.ensures own-expanded in
     let last = run_at _ (front c.put-2.new.bytes) (ids-start + 16 * 8 + w.control + w.expanded) (c.args.start + body_width w)
     (run_append _ _ control expanded) (omega arith) in
-    run_append _ _ c.write-lines.ensures (run_append _ _ c.write-streams.ensures (run_append _ _ c.write-ts-ids.ensures last))
+    run_append _ _ c.write_lines.ensures (run_append _ _ c.write_streams.ensures (run_append _ _ c.write_ts_ids.ensures last))

@@ -1,4 +1,4 @@
-use Rattle.std.proofs.Common.{◌≡◌, ◌+◌, ◌*◌, ◌^◌, ◌<◌, [], ◌∷◌, ap, ◌∙◌, arith}
+use Rattle.std.proofs.Common.{◌+◌, ◌*◌, ◌^◌, ap, ◌∙◌, arith}
 use Rattle.plan_formats.specs.Bits.{front}
 use Rattle.plan_formats.proofs.Joins.{run_one, run_append, run_at}
 use Rattle.plan_formats.proofs.Placed.{fits_narrow}

@@ -1,4 +1,4 @@
-use Rattle.std.proofs.Common.{◌≡◌, ◌*◌, ◌^◌, ◌<◌, ◌≤◌, length, get_or, refl, ◌∙◌, arith}
+use Rattle.std.proofs.Common.{◌≡◌, ◌*◌, ◌^◌, ◌<◌, length, get_or, arith}
 use Rattle.plan_formats.proofs.Placed.{place_within, fits_narrow}
 use Rattle.plan_formats.proofs.Writing.{writing_none, writing_more, writing_up_to}
 use Rattle.plan_formats.proofs.body.write_streams.Goals as goal

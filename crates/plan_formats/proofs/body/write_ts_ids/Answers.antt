@@ -1,4 +1,4 @@
-use Rattle.std.proofs.Common.{◌≡◌, ◌*◌, ◌^◌, ◌<◌, ◌≤◌, length, get_or, refl, ◌∙◌, arith}
+use Rattle.std.proofs.Common.{◌≡◌, get_or, arith}
 use Rattle.plan_formats.proofs.Writing.{writing_none, writing_more, writing_all}
 use Rattle.plan_formats.proofs.body.write_ts_ids.Goals as goal
 

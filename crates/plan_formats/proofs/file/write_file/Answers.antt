@@ -1,5 +1,5 @@
-use Rattle.std.proofs.Common.{◌≡◌, ℕ, ◌+◌, ◌*◌, ◌^◌, ◌<◌, ◌≤◌, [], ◌∷◌, sym, ap, ◌∙◌, subst, arith}
-use Rattle.plan_formats.specs.Bits.{front, joined, width, Fit}
+use Rattle.std.proofs.Common.{◌≡◌, ℕ, ◌+◌, [], ◌∷◌, subst, arith}
+use Rattle.plan_formats.specs.Bits.{front}
 use Rattle.plan_formats.specs.Body.{body, body_width, Run, Small}
 use Rattle.plan_formats.specs.Formats.{file_widths}
 use Rattle.plan_formats.specs.declared.body.Widths.{Widths}
@@ -13,8 +13,8 @@ file_small : (n : ℕ) (f : Fields) → Small (file_widths n) f
 file_small n f =
     record { words = λ h. absurd (omega (arith, h)); counts = λ h. absurd (omega (arith, h)); streams = λ h. absurd (omega (arith, h)); control = λ h. absurd (omega (arith, h)); expanded = λ h. absurd (omega (arith, h)) }
 
-pub write-body-requires : goal.write-body-requires
-write-body-requires c =
+pub write_body-requires : goal.write_body-requires
+write_body-requires c =
     let f = c.args.fields.now in
     let is : c.widths.result ≡ file_widths f.slots = c.widths.ensures in
     record {
@@ -32,8 +32,8 @@ returns c =
     let version = run_one (front c.put.new.bytes 24) 24 16 1 (front c.put-2.new.bytes 40) c.put-2.ensures (omega arith) in
     let slots = run_one (front c.put-2.new.bytes 40) 40 8 f.slots (front c.put-3.new.bytes 48) c.put-3.ensures (omega arith) in
     let head = run_append ((24, 0x534C50) ∷ []) ((16, 1) ∷ (8, f.slots) ∷ []) mark (run_append ((16, 1) ∷ []) ((8, f.slots) ∷ []) version slots) in
-    let run = subst (λ (w : Widths). Run (front c.put-3.new.bytes 48) 48 (body w f) (front c.write-body.new.bytes (48 + body_width w)) (48 + body_width w)) c.widths.ensures c.write-body.ensures in
+    let run = subst (λ (w : Widths). Run (front c.put-3.new.bytes 48) 48 (body w f) (front c.write_body.new.bytes (48 + body_width w)) (48 + body_width w)) c.widths.ensures c.write_body.ensures in
     record {
-      holds = file_run c.write-body.new.bytes f (front c.put-3.new.bytes 48) head run (omega arith);
-      bytes = λ k. omega (arith, c.type-inv.bytes k);
+      holds = file_run c.write_body.new.bytes f (front c.put-3.new.bytes 48) head run (omega arith);
+      bytes = λ k. omega (arith, c.type_inv.bytes k);
     }

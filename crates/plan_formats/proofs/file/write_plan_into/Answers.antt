@@ -1,4 +1,4 @@
-use Rattle.std.proofs.Common.{◌≡◌, ℕ, ◌+◌, ◌-◌, ◌≤◌, List, length, take, sym, ap, ◌∙◌, subst, arith}
+use Rattle.std.proofs.Common.{◌≡◌, ℕ, ◌+◌, ◌-◌, List, length, sym, ap, subst, arith}
 use Rattle.std.proofs.lemmas.List.{take_at}
 use Rattle.std.proofs.lemmas.Slice.{drop-put_mid}
 use Rattle.slot_plan.specs.declared.fault.PlanFault.TheVariants.{SlotCount}
@@ -14,9 +14,9 @@ pub returns : goal.returns
 returns c =
     let p = c.args.plan.now in
     let f = p.fields in
-    let bytes = c.write-file.new.bytes in
+    let bytes = c.write_file.new.bytes in
     let n = 39 + c.slots.result in
-    let holds : Holds bytes (file_fields f) = subst (λ (g : Fields). Holds bytes (file_fields g)) c.fields-fields.ensures c.write-file.ensures.holds in
+    let holds : Holds bytes (file_fields f) = subst (λ (g : Fields). Holds bytes (file_fields g)) c.fields-fields.ensures c.write_file.ensures.holds in
     let file : PlanFile bytes f =
     record { shaped = p.shaped; room = (plan_valid p SlotCount).1; beyond = valid_beyond f p.shaped (plan_valid p); holds = holds } in
     let long : length bytes ≡ n = omega (arith, holds.size, width_file f p.shaped file.room, c.slots.ensures.value) in

@@ -1,8 +1,8 @@
-use Rattle.std.proofs.Common.{◌≡◌, ℕ, zero, suc, ◌^◌, ◌<◌, List, [], ◌∷◌, get_or, refl, arith}
-use Rattle.plan_formats.specs.Bits.{front, Fit}
-use Rattle.plan_formats.specs.Body.{numbers, Run}
+use Rattle.std.proofs.Common.{ℕ, zero, suc, ◌^◌, ◌<◌, [], ◌∷◌, get_or, refl, arith}
+use Rattle.plan_formats.specs.Bits.{front}
+use Rattle.plan_formats.specs.Body.{numbers}
 use Rattle.plan_formats.proofs.Heads.{front_none}
-use Rattle.plan_formats.proofs.Joins.{run_one, run_append, fit_numbers}
+use Rattle.plan_formats.proofs.Joins.{run_one, run_append}
 use Rattle.plan_formats.proofs.keeping.pack.Goals as goal
 
 six_fit : (a b c d e f m : ℕ) → a < m → b < m → c < m → d < m → e < m → f < m → 0 < m → (k : ℕ) → get_or (a ∷ b ∷ c ∷ d ∷ e ∷ f ∷ []) k 0 < m

@@ -1,4 +1,4 @@
-use Rattle.std.proofs.Common.{◌≡◌, ℕ, ◌*◌, ◌^◌, ◌<◌, ◌≤◌, length, get_or, refl, ◌∙◌, subst, arith}
+use Rattle.std.proofs.Common.{ℕ, get_or, refl, subst, arith}
 use Rattle.plan_formats.specs.Bits.{front}
 use Rattle.plan_formats.specs.Body.{numbers, Run}
 use Rattle.plan_formats.proofs.Heads.{front_none}

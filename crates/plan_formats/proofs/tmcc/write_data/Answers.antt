@@ -1,4 +1,4 @@
-use Rattle.std.proofs.Common.{◌≡◌, ◌+◌, [], ◌∷◌, sym, subst, arith}
+use Rattle.std.proofs.Common.{◌+◌, subst, arith}
 use Rattle.plan_formats.specs.Bits.{front}
 use Rattle.plan_formats.specs.Body.{body, body_width, Run}
 use Rattle.plan_formats.specs.declared.body.Widths.{Widths}
@@ -7,8 +7,8 @@ use Rattle.plan_formats.proofs.Joins.{run_one}
 use Rattle.plan_formats.proofs.Plans.{valid_small}
 use Rattle.plan_formats.proofs.tmcc.write_data.Goals as goal
 
-pub write-body-requires : goal.write-body-requires
-write-body-requires c =
+pub write_body-requires : goal.write_body-requires
+write_body-requires c =
     let is = c.widths.ensures in
     record {
       within = rw is (omega arith);
@@ -22,8 +22,8 @@ returns c =
     let f = c.args.fields.now in
     let first = front c.put.new.bytes 5 in
     let order = run_one 0 0 5 c.args.order first (omega (arith, c.put.ensures, front_none c.args.bytes.now, c.from.ensures)) c.requires.order in
-    let run = subst (λ (w : Widths). Run first 5 (body w f) (front c.write-body.new.bytes (5 + body_width w)) (5 + body_width w)) c.widths.ensures c.write-body.ensures in
+    let run = subst (λ (w : Widths). Run first 5 (body w f) (front c.write_body.new.bytes (5 + body_width w)) (5 + body_width w)) c.widths.ensures c.write_body.ensures in
     record {
-      holds = tmcc_run c.write-body.new.bytes c.args.order f first order run (omega arith);
-      bytes = λ k. omega (arith, c.type-inv.bytes k);
+      holds = tmcc_run c.write_body.new.bytes c.args.order f first order run (omega arith);
+      bytes = λ k. omega (arith, c.type_inv.bytes k);
     }

@@ -5,4 +5,4 @@ use Rattle.plan_listing.proofs.listing.list_file.Goals as goal
 pub returns-in-Ok : goal.returns-in-Ok
 returns-in-Ok c =
     let plan = c.in-Ok.plan in
-    IfOk-weaker _ _ _ (λ s e. inl (plan.fields, c.in-Ok.ensures.read, plan.valid, e)) c.list-plan.ensures
+    IfOk-weaker _ _ _ (λ s e. inl (plan.fields, c.in-Ok.ensures.read, plan.valid, e)) c.list_plan.ensures

@@ -6,8 +6,8 @@ use Rattle.plan_listing.proofs.listing.list_plan.Goals as goal
 pub returns : goal.returns
 returns c =
     joined
-    (c.in-ok-text.ensures ∙ ap head_line c.slots.ensures.value)
-    (c.as-str.ensures.value ∙ c.in-ok-mode-lines.ensures)
-    (c.as-str-2.ensures.value ∙ c.in-ok-slot-lines.ensures)
-    c.in-ok-push-str.ensures.bytes
-    c.in-ok-push-str-2.ensures.bytes
+    (c.in_ok-text.ensures ∙ ap head_line c.slots.ensures.value)
+    (c.as_str.ensures.value ∙ c.in_ok-mode_lines.ensures)
+    (c.as_str-2.ensures.value ∙ c.in_ok-slot_lines.ensures)
+    c.in_ok-push_str.ensures.bytes
+    c.in_ok-push_str-2.ensures.bytes

@@ -8,7 +8,7 @@ loop-before-init c = c.new-text.ensures.bytes
 
 pub loop-before-preserved : goal.loop-before-preserved
 loop-before-preserved c =
-    let put = c.in-ok-push-str.ensures.bytes in
-    let line = c.in-ok-line.ensures in
+    let put = c.in_ok-push_str.ensures.bytes in
+    let line = c.in_ok-line.ensures in
     let more = more_slots c.args.plan.now.fields c.loop-before.before in
     cc

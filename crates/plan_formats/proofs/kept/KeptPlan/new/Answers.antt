@@ -15,12 +15,12 @@ keeps f order bytes slots packed zero frame states run =
     let first : TmccData bytes f.slots 0 f = subst (λ (o : ℕ). TmccData bytes f.slots o f) zero states in
     data_keeps bytes slots packed f (subst (λ (n : ℕ). TmccData bytes n 0 f) (sym frame) first) run
 
-pub invariant-of-result : goal.invariant-of-result
-invariant-of-result c =
+pub invariant_of-result : goal.invariant_of-result
+invariant_of-result c =
     let f = c.args.plan.now.fields in
     let kept = keeps f c.first-order.result.value c.data-data.result c.slots.result c.pack.result
     c.first-order.ensures c.slots.ensures.value c.data-data.ensures.holds c.pack.ensures.run in
-    (∣ (c.pack.ensures.len, c.pack.ensures.fit, (f, kept, plan_valid c.args.plan.now)) ∣₁, tt)
+    record { keeps = ∣ (c.pack.ensures.len, c.pack.ensures.fit, (f, kept, plan_valid c.args.plan.now)) ∣₁ }
 
 pub returns : goal.returns
 returns c =

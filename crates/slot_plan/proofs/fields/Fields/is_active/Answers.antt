@@ -1,7 +1,6 @@
-use Rattle.std.proofs.Common.{◌≡◌, ℕ, ◌%◌, ltb, sym, ap, ◌∙◌, zero-le}
+use Rattle.std.proofs.Common.{sym, ◌∙◌, zero-le}
 use Rattle.std.proofs.lemmas.Bool.{le-ltb}
-use Rattle.slot_plan.specs.Layout.{active, mode_word, place_among}
-use Rattle.slot_plan.specs.Modes.{unit}
+use Rattle.slot_plan.specs.Layout.{active, mode_word}
 use Rattle.slot_plan.proofs.Units.{no_unit}
 use Rattle.slot_plan.proofs.fields.Fields.is_active.Goals as goal
 

@@ -1,4 +1,4 @@
-use Rattle.std.proofs.Common.{◌≡◌, ◌<◌, ◌≤◌, length, drop, sym, ◌∙◌, arith}
+use Rattle.std.proofs.Common.{drop, sym, ◌∙◌, arith}
 use Rattle.slot_plan.specs.Layout.{mode_word}
 use Rattle.slot_plan.proofs.Located.{word_here, place_here, word_past, place_past, word_none, place_none}
 use Rattle.slot_plan.proofs.fields.Fields.locate.Goals as goal

@@ -1,5 +1,5 @@
 use Rattle.std.proofs.Common.{ℕ, ◌<◌, ◌≤◌}
-use Rattle.slot_plan.specs.Rules.{ModeRule, CountRule}
+use Rattle.slot_plan.specs.Rules.{ModeRule}
 use Rattle.slot_plan.proofs.fields.Fields.wrong_mode.Given as goal
 
 abbrev pub invariant-loop-line : goal.invariant-loop-line

@@ -1,4 +1,4 @@
-use Rattle.std.proofs.Common.{◌≡◌, ◌+◌, ◌-◌, ◌<◌, ◌≤◌}
+use Rattle.std.proofs.Common.{◌≡◌, ◌-◌, ◌<◌}
 use Rattle.slot_plan.specs.Views.{active_up_to}
 use Rattle.slot_plan.proofs.plan.Plan.active_slots.Given as goal
 
