@@ -1,6 +1,6 @@
 -- The distance of two words, counted place by place.
 -- Assumes nothing.
-use Rattle.std.proofs.Common.{◌≡◌, ℕ, zero, suc, ◌+◌, ◌<◌, ◌≤◌, min, cond, eqb, List, [], ◌∷◌, length, get_or, take, sym, refl, ap, ◌∙◌, add_assoc, arith}
+use Rattle.std.proofs.Common.{◌≡◌, ℕ, zero, suc, ◌+◌, ◌<◌, min, cond, eqb, List, [], ◌∷◌, length, get_or, take, sym, refl, ◌∙◌, add_assoc, arith}
 use Rattle.code_theory.specs.Codeword.{distance}
 use Rattle.code_theory.proofs.Differences.{distance_nil, distance_cons}
 

@@ -1,9 +1,9 @@
 -- Two codewords that differ in at most sixteen places are equal, and what follows for correcting.
 -- Assumes nothing.
-use Rattle.std.proofs.Common.{◌≡◌, ℕ, zero, suc, ◌+◌, ◌-◌, ◌<◌, ◌≤◌, ◌⊎◌, List, [], ◌∷◌, length, get_or, sym, refl, ap, ◌∙◌, inl, inr, arith}
-use Rattle.field256.specs.Field.{plus, times, power}
+use Rattle.std.proofs.Common.{◌≡◌, ℕ, ◌<◌, ◌≤◌, ◌⊎◌, List, length, sym, ap, ◌∙◌, inl, inr, arith}
+use Rattle.field256.specs.Field.{power}
 use Rattle.field256.proofs.Laws.{plus_self}
-use Rattle.code_theory.specs.Codeword.{Codeword, Bytes, distance, weight}
+use Rattle.code_theory.specs.Codeword.{Codeword, Bytes, distance}
 use Rattle.code_theory.specs.Laws.{DifferIn, OneNear, NoneNear}
 use Rattle.code_theory.proofs.Totals.{total, value_total}
 use Rattle.code_theory.proofs.Vanishing.{vanishing}

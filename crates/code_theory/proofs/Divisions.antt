@@ -1,8 +1,8 @@
 -- A polynomial divided by x less an element, coefficient by coefficient from the highest down.
 -- Assumes nothing.
-use Rattle.std.proofs.Common.{◌≡◌, ℕ, zero, suc, ◌+◌, ◌<◌, ◌≤◌, ◌≢◌, ◌⊎◌, List, length, get_or, sym, refl, ap, ◌∙◌, inl, inr, arith}
+use Rattle.std.proofs.Common.{◌≡◌, ℕ, zero, suc, ◌<◌, ◌≢◌, List, get_or, sym, ap, ◌∙◌, inl, inr, arith}
 use Rattle.field256.specs.Field.{plus, times, power}
-use Rattle.field256.proofs.Laws.{plus_assoc, plus_comm, plus_left_comm, plus_self, plus_zero, zero_plus, plus_cancel, plus_same, plus_times, times_plus, times_assoc, times_comm, times_left_comm, times_zero, zero_times, times_one, power_zero, power_suc, no_zero_divisors, times_fits}
+use Rattle.field256.proofs.Laws.{plus_assoc, plus_comm, plus_self, plus_zero, zero_plus, plus_cancel, plus_same, plus_times, times_plus, times_assoc, times_comm, times_left_comm, times_zero, zero_times, times_one, power_zero, power_suc, no_zero_divisors, times_fits}
 use Rattle.code_theory.specs.Codeword.{Bytes}
 use Rattle.code_theory.specs.Sequences.{polynomial}
 use Rattle.code_theory.proofs.Locating.{polynomial_none, polynomial_more}

@@ -1,10 +1,10 @@
 -- A polynomial that annihilates enough of a word's power sums is zero at the places of all its bytes other than zero.
 -- Assumes nothing.
-use Rattle.std.proofs.Common.{◌≡◌, ℕ, zero, suc, ◌+◌, ◌-◌, ◌<◌, ◌≤◌, ◌≢◌, ◌⊎◌, List, [], ◌∷◌, length, get_or, sym, refl, ap, ◌∙◌, inl, inr, arith}
+use Rattle.std.proofs.Common.{◌≡◌, ℕ, zero, suc, ◌+◌, ◌-◌, ◌<◌, ◌≤◌, ◌≢◌, ◌⊎◌, List, [], ◌∷◌, length, get_or, sym, ◌∙◌, inl, inr, arith}
 use Rattle.field256.specs.Field.{plus, times, power}
-use Rattle.field256.proofs.Laws.{plus_assoc, times_assoc, times_comm, times_left_comm, plus_times, zero_times, times_zero, no_zero_divisors, power_add, times_fits, plus_self}
-use Rattle.code_theory.specs.Codeword.{Bytes, value, weight}
-use Rattle.code_theory.specs.Sequences.{sum, polynomial, paired, Values, place}
+use Rattle.field256.proofs.Laws.{times_assoc, times_comm, times_left_comm, plus_times, zero_times, times_zero, no_zero_divisors, power_add, times_fits, plus_self}
+use Rattle.code_theory.specs.Codeword.{Bytes, weight}
+use Rattle.code_theory.specs.Sequences.{polynomial, paired, Values, place}
 use Rattle.code_theory.proofs.Sums.{sum_none, sum_more, sum_fits}
 use Rattle.code_theory.proofs.Totals.{total, scaled, total_plus, total_times, total_same, total_scaled, length_scaled, value_total, scaled_cons, total_nil, total_cons}
 use Rattle.code_theory.proofs.Weights.{weight_scaled, bytes_scaled, total_weightless, weightless}

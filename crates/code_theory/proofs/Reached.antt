@@ -1,6 +1,6 @@
 -- Two codewords that differ in seventeen places: the generator's coefficients, and zeros.
 -- Assumes nothing.
-use Rattle.std.proofs.Common.{◌≡◌, ℕ, zero, suc, ◌<◌, ◌≤◌, Bool, true, false, T, eqb, ltb, List, [], ◌∷◌, length, get_or, replicate, refl, arith, eqb→eq, ltb→lt}
+use Rattle.std.proofs.Common.{ℕ, zero, suc, Bool, true, T, eqb, ltb, List, [], ◌∷◌, replicate, refl, arith, eqb→eq, ltb→lt}
 use Rattle.field256.specs.Field.{plus, reduced, twice, bitwise_product, times, power}
 use Rattle.field256.proofs.Below.{both, both_left, both_right, every, at}
 use Rattle.code_theory.specs.Codeword.{value, value_from, Codeword, Bytes, distance}

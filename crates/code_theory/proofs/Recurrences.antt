@@ -1,14 +1,12 @@
 -- One step of the search for the shortest recurrence of a sequence.
 -- Assumes nothing.
-use Rattle.std.proofs.Common.{◌≡◌, ℕ, zero, suc, ◌+◌, ◌-◌, ◌<◌, ◌≤◌, ◌≢◌, ◌⊎◌, List, [], ◌∷◌, length, get_or, sym, refl, ap, ◌∙◌, inl, inr, add_assoc, arith}
+use Rattle.std.proofs.Common.{◌≡◌, ℕ, ◌+◌, ◌-◌, ◌<◌, ◌≤◌, ◌⊎◌, List, length, get_or, sym, ap, ◌∙◌, inl, inr, add_assoc, arith}
 use Rattle.std.proofs.lemmas.List.{get_or_past}
-use Rattle.field256.specs.Field.{plus, times, power}
-use Rattle.field256.proofs.Laws.{plus_assoc, plus_comm, plus_left_comm, plus_self, plus_zero, zero_plus, plus_fits, plus_times, times_plus, times_assoc, times_comm, times_left_comm, times_zero, zero_times, times_fits, no_zero_divisors}
-use Rattle.code_theory.specs.Codeword.{Bytes, value, weight}
-use Rattle.code_theory.specs.Sequences.{sum, polynomial, paired, Values, Recurrence}
+use Rattle.field256.specs.Field.{plus, times}
+use Rattle.field256.proofs.Laws.{plus_assoc, plus_self, plus_fits, plus_times, times_assoc, times_zero, zero_times, times_fits}
+use Rattle.code_theory.specs.Codeword.{Bytes}
+use Rattle.code_theory.specs.Sequences.{sum, paired}
 use Rattle.code_theory.proofs.Sums.{sum_same, sum_plus, sum_times, sum_split, sum_front, sum_fits}
-use Rattle.code_theory.proofs.Totals.{total}
-use Rattle.code_theory.proofs.Locating.{pairing, annihilates}
 
 pub paired_fits : (n : ℕ) (p s : List ℕ) (i : ℕ) → paired n p s i < 256
 unfolding paired

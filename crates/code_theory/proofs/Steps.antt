@@ -1,9 +1,9 @@
 -- The three ways to go on to the next element: the recurrence holds there, or it is changed, with or without a higher degree.
 -- Assumes nothing.
-use Rattle.std.proofs.Common.{◌≡◌, ℕ, zero, suc, ◌+◌, ◌-◌, ◌*◌, ◌<◌, ◌≤◌, ◌≢◌, ◌⊎◌, List, [], ◌∷◌, length, get_or, sym, refl, ap, ◌∙◌, inl, inr, arith}
-use Rattle.field256.specs.Field.{plus, times, power}
+use Rattle.std.proofs.Common.{◌≡◌, ℕ, suc, ◌+◌, ◌-◌, ◌<◌, ◌≤◌, ◌≢◌, ◌⊎◌, List, length, get_or, sym, ap, ◌∙◌, inl, inr, arith}
+use Rattle.field256.specs.Field.{times, power}
 use Rattle.field256.proofs.Laws.{plus_self, plus_zero, zero_plus, times_comm, times_zero, no_zero_divisors}
-use Rattle.code_theory.specs.Codeword.{Bytes, value, weight}
+use Rattle.code_theory.specs.Codeword.{Bytes, weight}
 use Rattle.code_theory.specs.Sequences.{polynomial, paired, Values, Recurrence}
 use Rattle.code_theory.proofs.Totals.{total}
 use Rattle.code_theory.proofs.Locating.{pairing, annihilates}

@@ -2,7 +2,7 @@
 -- Assumes nothing.
 use Rattle.std.proofs.Common.{◌≡◌, ℕ, zero, suc, ◌+◌, ◌-◌, ◌<◌, ◌≤◌, ◌≢◌, ◌⊎◌, sym, refl, ap, ◌∙◌, inl, inr, add-zero, add-suc, arith}
 use Rattle.field256.specs.Field.{plus, times}
-use Rattle.field256.proofs.Laws.{plus_assoc, plus_comm, plus_left_comm, plus_zero, plus_self, times_plus, times_zero, plus_fits, times_fits}
+use Rattle.field256.proofs.Laws.{plus_assoc, plus_comm, plus_left_comm, plus_zero, plus_self, times_plus, times_zero, plus_fits}
 use Rattle.code_theory.specs.Sequences.{sum}
 
 pub sum_none : (f : ℕ → ℕ) → sum 0 f ≡ 0

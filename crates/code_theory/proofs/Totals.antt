@@ -1,8 +1,8 @@
 -- Sums over the places of a word. The place of a byte is the power of 02h that its coefficient stands at.
 -- Assumes nothing.
-use Rattle.std.proofs.Common.{◌≡◌, ℕ, zero, suc, ◌+◌, ◌*◌, ◌<◌, ◌≤◌, List, [], ◌∷◌, length, get_or, sym, refl, ap, ◌∙◌, mul_comm, arith}
+use Rattle.std.proofs.Common.{◌≡◌, ℕ, suc, ◌<◌, List, [], ◌∷◌, length, sym, refl, ap, ◌∙◌, mul_comm, arith}
 use Rattle.field256.specs.Field.{plus, times, power}
-use Rattle.field256.proofs.Laws.{plus_assoc, plus_comm, plus_left_comm, plus_self, plus_zero, zero_plus, times_assoc, times_comm, times_left_comm, times_plus, plus_times, zero_times, times_zero, times_one, power_mul, power_suc, power_zero, plus_fits, times_fits}
+use Rattle.field256.proofs.Laws.{plus_assoc, plus_comm, plus_left_comm, plus_zero, zero_plus, times_assoc, times_left_comm, times_plus, plus_times, zero_times, times_zero, times_one, power_mul, power_suc, power_zero, plus_fits, times_fits}
 use Rattle.code_theory.specs.Codeword.{value, value_from, Bytes}
 
 -- the sum over a word's places of the byte times g at its place

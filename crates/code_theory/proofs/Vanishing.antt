@@ -1,8 +1,8 @@
 -- A word with at most m bytes other than zero is zero if its first m power sums are.
 -- Assumes nothing.
-use Rattle.std.proofs.Common.{◌≡◌, ℕ, zero, suc, ◌+◌, ◌-◌, ◌*◌, ◌<◌, ◌≤◌, ◌≢◌, ◌⊎◌, List, [], ◌∷◌, length, get_or, sym, refl, ap, ◌∙◌, inl, inr, arith}
+use Rattle.std.proofs.Common.{◌≡◌, ℕ, zero, suc, ◌<◌, ◌≤◌, ◌≢◌, List, [], ◌∷◌, length, sym, ap, ◌∙◌, arith}
 use Rattle.field256.specs.Field.{plus, times, power}
-use Rattle.field256.proofs.Laws.{plus_assoc, plus_comm, plus_left_comm, plus_self, plus_zero, zero_plus, plus_same, plus_fits, times_assoc, times_comm, times_left_comm, times_plus, plus_times, zero_times, times_zero, times_one, times_fits, power_zero, power_suc, power_fits, two_power_distinct}
+use Rattle.field256.proofs.Laws.{plus_self, plus_zero, zero_plus, plus_same, plus_fits, times_left_comm, plus_times, zero_times, times_one, power_zero, power_suc, power_fits, two_power_distinct}
 use Rattle.code_theory.specs.Codeword.{Bytes, weight}
 use Rattle.code_theory.proofs.Totals.{total, scaled, total_cons, total_plus, total_times, total_same, total_scaled, length_scaled}
 use Rattle.code_theory.proofs.Weights.{weight_nil, weight_zero, weight_suc, weight_scaled, weight_unscaled, bytes_scaled, total_weightless}

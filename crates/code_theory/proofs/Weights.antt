@@ -1,11 +1,10 @@
 -- The weight of a word: in how many places it is not zero.
 -- Assumes nothing.
-use Rattle.std.proofs.Common.{◌≡◌, ℕ, zero, suc, ◌+◌, ◌-◌, ◌*◌, ◌<◌, ◌≤◌, Bool, true, false, cond, T, eqb, ◌≢◌, ◌⊎◌, List, [], ◌∷◌, length, get_or, sym, refl, ap, ◌∙◌, inl, inr, arith, eqb→eq}
-use lib.Dec.{eqb_refl}
-use Rattle.field256.specs.Field.{plus, times, power}
-use Rattle.field256.proofs.Laws.{plus_zero, zero_plus, plus_self, plus_same, plus_fits, times_fits, zero_times, times_zero, no_zero_divisors, power_fits, two_power_distinct}
+use Rattle.std.proofs.Common.{◌≡◌, ℕ, zero, suc, ◌<◌, ◌≤◌, ◌≢◌, List, [], ◌∷◌, length, get_or, sym, refl, ◌∙◌, inl, inr, arith}
+use Rattle.field256.specs.Field.{times, power}
+use Rattle.field256.proofs.Laws.{zero_plus, times_fits, zero_times, no_zero_divisors}
 use Rattle.code_theory.specs.Codeword.{Bytes, weight}
-use Rattle.code_theory.proofs.Totals.{total, scaled, total_nil, total_cons, scaled_nil, scaled_cons, length_scaled}
+use Rattle.code_theory.proofs.Totals.{total, scaled, total_nil, total_cons, scaled_nil, scaled_cons}
 
 pub weight_nil : weight [] ≡ 0
 unfolding weight

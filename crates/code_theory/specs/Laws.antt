@@ -1,6 +1,6 @@
 -- What the distance between codewords says of correcting.
 -- Assumes nothing.
-use Rattle.std.specs.Prelude.{◌≡◌, ℕ, ◌+◌, ◌-◌, ◌<◌, ◌≤◌, List, length, ◌≢◌}
+use Rattle.std.specs.Prelude.{◌≡◌, ℕ, ◌+◌, ◌<◌, ◌≤◌, List, length, ◌≢◌}
 use Rattle.code_theory.specs.Codeword.{Codeword, Bytes, distance}
 
 -- Two different codewords of one length, at most 255, differ in d places at least.

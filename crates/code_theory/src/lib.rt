@@ -1,4 +1,6 @@
 // The theory of the outer code: how far apart its codewords are, and what that says of correcting.
+#![tactic(auto)]
+
 ghost use Rattle.std.specs.Prelude.{◌≡◌, ℕ, ◌≤◌};
 ghost use Rattle.code_theory.specs.Laws.{DifferIn, NoneNear, OneNear, Reached};
 ghost use Rattle.code_theory.specs.Codeword.{distance};

@@ -1,4 +1,6 @@
 // Answers requests to the outer code: one line in, one line out.
+#![tactic(auto)]
+
 use codeword_lines::answer_line;
 use std::io;
 use std::io::{BufRead, BufReader};

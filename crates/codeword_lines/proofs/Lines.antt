@@ -1,6 +1,6 @@
 -- A line is a request in one way at most.
 -- Assumes nothing.
-use Rattle.std.proofs.Common.{◌≡◌, ℕ, suc, ◌<◌, ◌≤◌, List, [], ◌∷◌, ◌++◌, length, get_or, sym, refl, ap, ◌∙◌, subst, arith}
+use Rattle.std.proofs.Common.{◌≡◌, ℕ, suc, ◌<◌, List, [], ◌∷◌, ◌++◌, length, get_or, ◌∙◌, subst, arith}
 use Rattle.codeword_lines.specs.declared.request.Kind.{Kind}
 use Rattle.codeword_lines.specs.declared.request.Kind.TheVariants.{Slot, Tmcc}
 use Rattle.codeword_lines.specs.declared.request.Task.{Task}

@@ -1,5 +1,5 @@
 -- Bytes as hexadecimal digits, and numbers as decimal ones. Assumes nothing.
-use Rattle.std.specs.Prelude.{◌≡◌, ℕ, ◌+◌, ◌-◌, ◌*◌, ◌%◌, ◌<◌, ◌≤◌, min, Bool, cond, List, [], ◌∷◌, length, nat_le, slice_index}
+use Rattle.std.specs.Prelude.{◌≡◌, ℕ, ◌+◌, ◌-◌, ◌*◌, ◌%◌, ◌<◌, ◌≤◌, cond, List, [], ◌∷◌, length, nat_le, slice_index}
 
 -- the value of a hexadecimal digit of either case, and 16 for any other byte
 abbrev pub digit : ℕ → ℕ

@@ -1,4 +1,6 @@
 // Requests to the outer code, one to a line of text, and what they are answered.
+#![tactic(auto)]
+
 mod answer;
 mod hex;
 mod line;

@@ -104,8 +104,8 @@ zero_logarithm past (suc a) e = absurd (omega arith)
 
 -- a product by logarithms, zero's place past the sums of the others
 pub logarithm_product : (a b m n r : ℕ) → a < 256 → b < 256
-    → (0 < a → (m < 255) × (power 2 m ≡ a)) → (a ≡ 0 → m ≡ 509) → (0 < b → (n < 255) × (power 2 n ≡ b)) → (b ≡ 0 → n ≡ 509)
-    → (m + n < 509 → r ≡ power 2 (m + n)) → (509 ≤ m + n → r ≡ 0) → r ≡ times a b
+    → (0 < a → (m < 255) × (power 2 m ≡ a)) → (a ≡ 0 → m ≡ 510) → (0 < b → (n < 255) × (power 2 n ≡ b)) → (b ≡ 0 → n ≡ 510)
+    → (m + n < 510 → r ≡ power 2 (m + n)) → (510 ≤ m + n → r ≡ 0) → r ≡ times a b
 logarithm_product zero b m n r ha hb some none some-b none-b power-is zero_is =
     zero_is (omega (arith, none refl)) ∙ sym (zero_times b)
 logarithm_product (suc a) zero m n r ha hb some none some-b none-b power-is zero_is =

@@ -1,4 +1,6 @@
 // The field of 256 elements that the outer code computes in: sums, products, inverses, powers of x and logarithms.
+#![tactic(auto)]
+
 mod tables;
 
 ghost use Rattle.std.specs.Prelude.{◌≡◌, ◌<◌, MatchOption};

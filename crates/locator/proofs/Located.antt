@@ -1,7 +1,7 @@
 -- What the search has found at the end of the sequence locates the errors.
 -- Assumes nothing.
-use Rattle.std.proofs.Common.{◌≡◌, ℕ, suc, ◌+◌, ◌-◌, ◌<◌, ◌≤◌, List, length, get_or, sym, ◌∙◌, arith}
-use Rattle.code_theory.specs.Sequences.{polynomial, paired, Recurrence}
+use Rattle.std.proofs.Common.{◌≡◌, ℕ, ◌-◌, List, length, sym, ◌∙◌, arith}
+use Rattle.code_theory.specs.Sequences.{polynomial}
 use Rattle.code_theory.proofs.Locating.{pairing, scaled_away, zero_at, polynomial_fits}
 use Rattle.locator.specs.Searches.{Found, Locates}
 use Rattle.locator.specs.declared.sequence.Search.{Search}

@@ -1,6 +1,6 @@
 -- The step of the search, over the values that its code has.
 -- Assumes nothing.
-use Rattle.std.proofs.Common.{◌≡◌, ℕ, suc, ◌+◌, ◌-◌, ◌<◌, ◌≤◌, ◌≢◌, List, length, get_or, sym, refl, ap, ◌∙◌, subst, arith}
+use Rattle.std.proofs.Common.{◌≡◌, ℕ, suc, ◌+◌, ◌-◌, ◌<◌, ◌≤◌, ◌≢◌, List, length, get_or, sym, ◌∙◌, subst, arith}
 use Rattle.field256.specs.Field.{plus, times}
 use Rattle.code_theory.specs.Sequences.{paired, Recurrence}
 use Rattle.code_theory.proofs.Recurrences.{Mixed, mixed_within, paired_front}

@@ -1,6 +1,6 @@
 -- The byte at one place, by the quotient that is zero at every other place.
 -- Assumes nothing.
-use Rattle.std.proofs.Common.{◌≡◌, ℕ, zero, ◌-◌, ◌<◌, ◌≤◌, ◌≢◌, ◌⊎◌, List, length, get_or, sym, ap, ◌∙◌, inl, inr, arith}
+use Rattle.std.proofs.Common.{◌≡◌, ℕ, ◌-◌, ◌<◌, ◌≤◌, ◌≢◌, ◌⊎◌, List, length, get_or, sym, ap, ◌∙◌, inl, inr, arith}
 use Rattle.field256.specs.Field.{times, power}
 use Rattle.field256.proofs.Laws.{times_comm, times_zero, zero_times, times_one, times_cancel, power_zero, power_fits, two_power_distinct}
 use Rattle.code_theory.specs.Codeword.{Bytes}

@@ -1,4 +1,6 @@
 // From the syndromes of a word to its errors: a locator, the places where it is zero, and the values there.
+#![tactic(auto)]
+
 mod errors;
 mod field;
 mod polynomial;

@@ -1,10 +1,10 @@
 -- Data with their check bytes behind them are the only codeword that has these data.
 -- Assumes nothing.
-use Rattle.std.proofs.Common.{◌≡◌, ℕ, ◌+◌, ◌-◌, ◌≤◌, List, ◌++◌, length, get_or, take, drop, Ok, Err, Result, sym, ap, ◌∙◌, subst, arith, length-append, length-drop, take-append-drop, length-take-le, get_or-drop, take_at}
+use Rattle.std.proofs.Common.{◌≡◌, ℕ, ◌+◌, ◌-◌, List, ◌++◌, length, take, drop, Ok, Err, Result, sym, ap, ◌∙◌, subst, arith, length-append, length-drop, take-append-drop, length-take-le, get_or-drop, take_at}
 use Rattle.code_theory.specs.Codeword.{Bytes, Codeword}
 use Rattle.parity.specs.Remainder.{Checks}
 use Rattle.outer_code.specs.Calls.{Encoded, DataEncoded}
-use Rattle.outer_code.specs.Words.{CodedWord, Coded}
+use Rattle.outer_code.specs.Words.{Coded}
 use Rattle.outer_code.specs.declared.fault.CodeFault.{CodeFault}
 
 bytes_drop : (n : ℕ) (w : List ℕ) → Bytes w → Bytes (drop n w)

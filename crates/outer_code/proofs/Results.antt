@@ -1,6 +1,6 @@
 -- What is known of correcting, from what a call answers.
 -- Assumes nothing.
-use Rattle.std.proofs.Common.{◌≡◌, ℕ, ◌+◌, ◌<◌, ◌≤◌, List, length, Ok, Err, Result, sym, refl, subst, arith}
+use Rattle.std.proofs.Common.{◌≡◌, ℕ, ◌≤◌, List, length, Ok, Err, Result, sym, refl, arith}
 use Rattle.code_theory.proofs.Distances.{differ_in_17, none_near}
 use Rattle.outer_code.specs.declared.fault.CodeFault.{CodeFault}
 use Rattle.outer_code.specs.declared.fault.CodeFault.TheVariants.{Length, Bound, Uncorrectable}

@@ -1,5 +1,5 @@
 -- What coding and correcting answer, and what they leave in the word. Assumes nothing.
-use Rattle.std.specs.Prelude.{◌≡◌, ℕ, ◌+◌, ◌<◌, ◌≤◌, List, length, Ok, Err, Result, ◌≢◌}
+use Rattle.std.specs.Prelude.{◌≡◌, ℕ, ◌<◌, ◌≤◌, List, length, Ok, Err, Result, ◌≢◌}
 use Rattle.outer_code.specs.declared.fault.CodeFault.{CodeFault}
 use Rattle.outer_code.specs.declared.fault.CodeFault.TheVariants.{Length, Bound, Uncorrectable}
 use Rattle.outer_code.specs.Words.{CodedWord, Coded, Corrected, NoneNear}

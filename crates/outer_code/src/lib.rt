@@ -1,4 +1,6 @@
 // The outer code: kinds of word, the coder and the corrector, which serve every kind.
+#![tactic(auto)]
+
 mod corrector;
 mod encoder;
 mod fault;

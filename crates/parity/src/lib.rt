@@ -1,4 +1,6 @@
 // The remainder of a word by the generator of the outer code, and what follows from it: check bytes, the test for a codeword, syndromes.
+#![tactic(auto)]
+
 mod register;
 mod rows;
 mod terms;

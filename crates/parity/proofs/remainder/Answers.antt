@@ -1,6 +1,5 @@
 use Rattle.std.proofs.Common.{◌≡◌, ℕ, ◌+◌, ◌-◌, ◌⊎◌, length, arith}
 use lib.Bits.{bit_xor}
-use Rattle.std.specs.Int.Digits.{number_from_digits}
 use Rattle.code_theory.specs.Codeword.{Bytes}
 use Rattle.parity.specs.Remainder.{Remainder}
 use Rattle.parity.proofs.Byte.{bytes_take}

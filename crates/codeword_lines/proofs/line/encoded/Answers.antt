@@ -1,4 +1,4 @@
-use Rattle.std.proofs.Common.{◌≡◌, List, ◌++◌, length, take, drop, ap, ◌∙◌, arith, take_at, rules}
+use Rattle.std.proofs.Common.{◌≡◌, ◌++◌, length, take, drop, ap, ◌∙◌, arith, take_at, rules}
 use Rattle.codeword_lines.specs.Hex.{unhexed}
 use Rattle.codeword_lines.proofs.Digits.{halves}
 use Rattle.codeword_lines.proofs.line.encoded.Goals as goal
@@ -12,7 +12,7 @@ pub returns-in-Ok : goal.returns-in-Ok
 returns-in-Ok g c =
     let text = c.args.text.now in
     let after = c.encode.new.word in
-    let made = c.in-ok-word.word in
+    let made = c.in_ok-word.word in
     let size : length after ≡ made.len = search rules in
     let whole : take made.len (after ++ drop (length after) made.items) ≡ after
     = take_at after (drop (length after) made.items) made.len size in

@@ -1,6 +1,5 @@
-use Rattle.std.proofs.Common.{◌≡◌, ℕ, ◌<◌, ◌≤◌, min, List, length, get_or, take, sym, ap, ◌∙◌, inl, inr, arith, length-take-le, get_or-take, rules}
+use Rattle.std.proofs.Common.{take, inl, inr, arith}
 use native.Mathlib.Nat.{sub-zero}
-use Rattle.codeword_lines.specs.Hex.{DecimalDigit}
 use Rattle.codeword_lines.proofs.Bounds.{found, cut, front}
 use Rattle.codeword_lines.proofs.request.bound_of.Goals as goal
 

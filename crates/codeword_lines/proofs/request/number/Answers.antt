@@ -1,4 +1,4 @@
-use Rattle.std.proofs.Common.{◌≡◌, ℕ, suc, ◌-◌, min, List, length, get_or, take, sym, ap, ◌∙◌, add-one, arith, take_all, rules}
+use Rattle.std.proofs.Common.{ℕ, ◌-◌, min, List, get_or, take, ap, ◌∙◌, add-one, take_all, rules}
 use Rattle.codeword_lines.specs.Hex.{number_from}
 use Rattle.codeword_lines.proofs.Digits.{number_none, number_more, least_more}
 use Rattle.codeword_lines.proofs.request.number.Goals as goal

@@ -14,8 +14,8 @@ loop-byte-preserved c =
     let before : List ℕ = hexed (take c.loop-byte.byte-index bytes) in
     let high : List ℕ = capital (byte / 16) ∷ [] in
     let low : List ℕ = capital (byte % 16) ∷ [] in
-    let one = c.in-ok-push.ensures in
-    let two = c.in-ok-push-2.ensures in
+    let one = c.in_ok-push.ensures in
+    let two = c.in_ok-push-2.ensures in
     let first : string_bytes c.push.new.self ≡ string_bytes c.loop-byte.text ++ high =
     one.bytes ∙ ap (λ (l : List ℕ). string_bytes c.loop-byte.text ++ l) (one.ascii c.capital.ensures.bound ∙ ap (λ (d : ℕ). d ∷ []) c.capital.ensures.value) in
     let last : string_bytes c.push-in-loop-byte.new.self ≡ string_bytes c.push.new.self ++ low =

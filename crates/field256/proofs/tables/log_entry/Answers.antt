@@ -8,4 +8,4 @@ pub returns : goal.returns
 unfolding lists logarithm position powers_from times bitwise_product twice reduced plus
 returns c =
     let h : c.args.a < 256 = omega arith in
-    rw (logarithm_table 509) (record { power = λ p. power_logarithm 509 c.args.a p h; zero = λ z. zero_logarithm 509 c.args.a z })
+    rw (logarithm_table 510) (record { power = λ p. power_logarithm 510 c.args.a p h; zero = λ z. zero_logarithm 510 c.args.a z })

@@ -1,4 +1,4 @@
-use Rattle.std.proofs.Common.{ℕ, sym, ap, ◌∙◌, add-one}
+use Rattle.std.proofs.Common.{sym, ap, ◌∙◌, add-one}
 use Rattle.field256.specs.Field.{plus}
 use Rattle.code_theory.proofs.Locating.{paired_none, paired_more}
 use Rattle.locator.proofs.sequence.discrepancy.Goals as goal

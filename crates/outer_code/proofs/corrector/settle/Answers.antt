@@ -8,5 +8,5 @@ returns-then-rest-eq0 g c =
     let w = c.args.word.now in
     let r = c.remainder-rest.result in
     let short : length w ≤ 255 = omega (arith, g.met.K.WordKind.short) in
-    clean g.K.WordKind.permitted c.args.bound w c.permits.result short c.requires.bound (λ k. (c.type-inv.word k).fits)
+    clean g.K.WordKind.permitted c.args.bound w c.permits.result short c.requires.bound (λ k. (c.type_inv.word k).fits)
     (codeword_at_zero w r c.remainder-rest.ensures.is c.if-rest-eq0.true) c.permits.ensures

@@ -1,9 +1,8 @@
-use Rattle.std.proofs.Common.{◌≡◌, ℕ, ◌+◌, ◌-◌, List, ◌++◌, length, take, drop, sym, ap, ◌∙◌, arith, rules}
+use Rattle.std.proofs.Common.{◌≡◌, ℕ, ◌+◌, ◌-◌, List, ◌++◌, length, take, sym, arith, rules}
 use native.Mathlib.Nat.{sub-zero}
 use borrow.Rule.Slice.PartMut.{put_mid}
 use Rattle.std.proofs.lemmas.Slice.{overwrites}
 use Rattle.parity.specs.Remainder.{Checks}
-use Rattle.outer_code.specs.Words.{Coded}
 use Rattle.outer_code.proofs.Coding.{coded}
 use Rattle.outer_code.proofs.encoder.encode.Goals as goal
 
@@ -15,12 +14,12 @@ behind n w checks tail l k e = search (rules, overwrites)
 pub returns : goal.returns
 returns g c =
     let w = c.args.word.now in
-    let n = c.data-size-data.result in
-    let checks = c.check-bytes-checks.result in
-    let ok : Checks (take n w) checks = rw sub-zero at c.check-bytes-checks.ensures in
+    let n = c.data_size-data.result in
+    let checks = c.check_bytes-checks.result in
+    let ok : Checks (take n w) checks = rw sub-zero at c.check_bytes-checks.ensures in
     let law : g.K.WordKind.size ≡ g.K.WordKind.message + 16 = g.met.K.WordKind.checks in
     let size : length w ≡ g.K.WordKind.size = omega arith in
     let l : length w ≡ n + 16 = omega arith in
-    let is = behind n w checks c.copy-from-slice.new.self l ok.size c.copy-from-slice.ensures.after in
-    let done = coded n w checks (put_mid n (length w - n) w c.copy-from-slice.new.self) l (λ k. (c.type-inv.word k).fits) ok is in
-    (size, rw (sym c.data-size-data.ensures) done)
+    let is = behind n w checks c.copy_from_slice.new.self l ok.size c.copy_from_slice.ensures.after in
+    let done = coded n w checks (put_mid n (length w - n) w c.copy_from_slice.new.self) l (λ k. (c.type_inv.word k).fits) ok is in
+    (size, rw (sym c.data_size-data.ensures) done)

@@ -20,9 +20,9 @@ returns g c =
     let same : n ≡ g.K.WordKind.message = omega arith in
     let room : length w ≡ g.K.WordKind.size = omega arith in
     let fits : n ≤ length w = omega arith in
-    let copied : c.copy-from-slice.new.self ≡ content = c.copy-from-slice.ensures.after in
-    let begun = put_mid 0 (n - 0) w c.copy-from-slice.new.self in
-    let begins : take n begun ≡ content = front n w content c.copy-from-slice.new.self refl fits copied in
-    let long : length begun ≡ length w = size_kept n w content c.copy-from-slice.new.self refl fits copied in
+    let copied : c.copy_from_slice.new.self ≡ content = c.copy_from_slice.ensures.after in
+    let begun = put_mid 0 (n - 0) w c.copy_from_slice.new.self in
+    let begins : take n begun ≡ content = front n w content c.copy_from_slice.new.self refl fits copied in
+    let long : length begun ≡ length w = size_kept n w content c.copy_from_slice.new.self refl fits copied in
     data_coded g.K.WordKind.size g.K.WordKind.message content w begun c.encode.result c.encode.new.word law same room
     (long ∙ room) (ap (λ (k : ℕ). take k begun) (sym same) ∙ begins) c.encode.ensures

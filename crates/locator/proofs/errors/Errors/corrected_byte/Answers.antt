@@ -19,13 +19,13 @@ loop-m-preserved c =
     let inv = c.loop-m.invariant in
     elim c.if-self-m.branch [
       | then-self-m x ↦
-          simp (x.byte_is, add-one) (
+          simp (x.byte-is, add-one) (
             x.sum-byte.ensures
                 ∙ rw inv.0 (sym (byte_here c.loop-m.m c.args.place list values w x.if-self-m.true (omega arith))),
             x.sum-byte.type_inv,
           )
       | else-self-m x ↦
-          simp (x.byte_is, add-one) (
+          simp (x.byte-is, add-one) (
             inv.0 ∙ sym (byte_other c.loop-m.m c.args.place list values w x.if-self-m.false),
             inv.1,
           )

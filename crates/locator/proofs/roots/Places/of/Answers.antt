@@ -36,7 +36,11 @@ pub invariant_of-result : goal.invariant_of-result
 invariant_of-result c =
     let roots = searched c.args.locator.now.coefficients c.args.locator.now.degree c.args.len c.loop-k.k
     c.loop-k.count c.loop-k.list (omega arith) c.args.locator.now.room c.loop-k.invariant in
-    (omega (arith, roots.room, c.args.locator.now.room), (roots.order.within, (roots.order.rising, tt)))
+    record {
+      room = omega (arith, roots.room, c.args.locator.now.room);
+      within = roots.order.within;
+      rising = roots.order.rising;
+    }
 
 pub returns : goal.returns
 returns c = record {
