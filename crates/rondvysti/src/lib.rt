@@ -1,4 +1,6 @@
 // Rondvysti for C: the calls of the rack's control program.
+#![tactic(auto)]
+
 mod plan;
 mod tmcc;
 
