@@ -1,4 +1,6 @@
 // Digests of bytes, by which stored cases name long outcomes.
+#![tactic(auto)]
+
 mod crc;
 mod fnv;
 

@@ -1,7 +1,7 @@
 -- From a place in the sequence to the next. Assumes nothing.
 use Rattle.std.proofs.Common.{◌≡◌, ℕ, ◌+◌, ◌*◌, ◌/◌, ◌^◌, refl, ap, ◌∙◌, arith}
 use mathlib.Core.Logic.{∥∥₁_map}
-use Rattle.dispersal.specs.Stages.{state, bits, sequence, At}
+use Rattle.dispersal.specs.Stages.{state, bits, sequence, At, Begins}
 use Rattle.dispersal.proofs.Windows.{passed, first_bits, moved_on}
 
 -- the first fifteen bytes
@@ -11,6 +11,10 @@ first = 0x03F6_0834_30B8_A393_C968_B773_B329_AA
 pub at_start : At first 0
 unfolding At bits state
 at_start = refl
+
+pub begins : Begins
+unfolding sequence bits state
+begins = (refl, refl, refl, refl)
 
 pub at_byte : (w n : ℕ) → At w n → w / 2 ^ 112 ≡ sequence n
 unfolding At sequence

@@ -1,6 +1,6 @@
 -- The sequence by itself: each bit, and so each byte, is the sum of two earlier ones. Assumes nothing.
-use Rattle.std.proofs.Common.{◌≡◌, ℕ, zero, suc, ◌+◌, ◌*◌, ◌/◌, ◌%◌, ◌^◌, ◌<◌, Bool, T, eqb, sym, refl, ap, ◌∙◌, add-zero, add_assoc, add-suc, arith, eqb→eq}
-use lib.Bits.{bit_xor, xor_assoc, xor_self, xor_zero_r, xor_block}
+use Rattle.std.proofs.Common.{◌≡◌, ℕ, zero, suc, ◌+◌, ◌*◌, ◌^◌, ◌<◌, Bool, T, eqb, sym, refl, ap, ◌∙◌, add-zero, arith, eqb→eq}
+use lib.Bits.{bit_xor, xor_assoc, xor_self, xor_block}
 use Rattle.std.proofs.lemmas.Nat.{xor_lt}
 use Rattle.dispersal.specs.Stages.{stage, fed, moved, state, bits}
 use Rattle.dispersal.proofs.Every.{every, at}

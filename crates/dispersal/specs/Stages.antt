@@ -44,3 +44,7 @@ At window n = window ≡ bits (8 * n) 120
 -- adding the sequence again at the same places gives back what was there
 abbrev pub Twice : Type 0
 Twice = (n : ℕ) (xs : List ℕ) → added n (added n xs) ≡ xs
+
+-- how the sequence begins
+abbrev pub Begins : Type 0
+Begins = (sequence 0 ≡ 0x03) × (sequence 1 ≡ 0xF6) × (sequence 2 ≡ 0x08) × (sequence 3 ≡ 0x34)

@@ -1,4 +1,6 @@
 // The energy dispersal sequence, and adding it to bytes.
+#![tactic(auto)]
+
 mod sequence;
 mod steps;
 

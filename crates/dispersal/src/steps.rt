@@ -1,6 +1,6 @@
 // The way along the sequence, a byte or eight bytes at a time.
 ghost use Rattle.std.specs.Prelude.{◌≡◌, ℕ, ◌+◌, ◌*◌, ◌<◌, length};
-ghost use Rattle.dispersal.specs.Stages.{At, bits, sequence, added, Twice};
+ghost use Rattle.dispersal.specs.Stages.{At, bits, sequence, added, Twice, Begins};
 
 use crate::sequence::Sequence;
 
@@ -28,7 +28,8 @@ const BEHIND_NEXT_EIGHT: u128 = 48;
 impl Sequence {
     // The sequence from its first byte on.
     pub fn new() -> Sequence
-        ensures { At result.window 0 }
+        ensures start { At result.window 0 }
+        ensures begins { Begins }
     {
         Sequence { window: FIRST }
     }

@@ -1,10 +1,10 @@
 -- The bytes of a super-frame by frame and place in the frame, both counted from 0. Assumes nothing.
-use Rattle.std.proofs.Common.{◌≡◌, ℕ, ◌+◌, ◌-◌, ◌*◌, ◌/◌, ◌%◌, ◌<◌, ◌≤◌, true, false, cond, ltb, List, length, get_or, sym, refl, ap, ◌∙◌, mul-le-mul_right, add-sub_cancel, arith}
+use Rattle.std.proofs.Common.{◌≡◌, ℕ, ◌+◌, ◌-◌, ◌*◌, ◌/◌, ◌%◌, ◌<◌, ◌≤◌, false, ltb, List, get_or, ◌∙◌, mul-le-mul_right, add-sub_cancel, arith}
 use lib.Bits.{bit_xor}
-use Rattle.std.proofs.lemmas.Nat.{div-mul-add, mod-mul-add, div_below, mod_below, div-add-mod'}
+use Rattle.std.proofs.lemmas.Nat.{div-mul-add, mod-mul-add}
 use Rattle.std.proofs.lemmas.Bool.Decides.{nat_tests}
 use Rattle.dispersal.specs.Stages.{sequence}
-use Rattle.frame_layout.specs.Layout.{frame_size, super_size, head_byte, tmcc_byte, dispersed, slot_byte, frame_byte, byte_at, SuperFrame}
+use Rattle.frame_layout.specs.Layout.{frame_size, super_size, head_byte, dispersed, slot_byte, frame_byte, byte_at}
 
 -- a place of a frame, in its super-frame
 pub within : (slots g r : ℕ) → g < 8 → r < frame_size slots → g * frame_size slots + r < super_size slots

@@ -22,6 +22,7 @@ pub fn frame_size(slots: u8) -> usize
 pub fn super_frame_size(slots: u8) -> usize
     ensures size { result ≡ super_size slots }
     ensures value { result ≡ 8 * (12 + 203 * slots) }
+    ensures known { (super_size 1 ≡ 1720) × (super_size 48 ≡ 78048) }
 {
     FRAMES as usize * frame_size(slots)
 }

@@ -1,4 +1,6 @@
 // The layout of a super-frame: its lengths, its bytes by place, and its frame marks.
+#![tactic(auto)]
+
 mod lengths;
 mod marks;
 

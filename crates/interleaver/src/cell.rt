@@ -16,6 +16,7 @@ impl Cell {
     pub fn of(k: usize) -> Option<Cell>
         ensures cell { MatchOption result (size ≤ k) (λ c. (k < size) × (c.row ≡ row k) × (c.column ≡ column k)) }
         ensures place { MatchOption result (size ≤ k) (λ c. place 8 203 k ≡ 203 * (c.row - 1) + (c.column - 1)) }
+        ensures known { ((row 202 ≡ 3) × (column 202 ≡ 26)) × ((row 203 ≡ 4) × (column 203 ≡ 26)) × ((row 811 ≡ 4) × (column 811 ≡ 102)) }
     {
         if k >= SIZE {
             return None;

@@ -1,4 +1,6 @@
 // The interleaver of a slot's block and its inverse, for every kind of element that names a rest element.
+#![tactic(auto)]
+
 mod blocks;
 mod calls;
 mod cell;

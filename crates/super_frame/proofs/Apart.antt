@@ -1,5 +1,5 @@
 -- Where the parts of a super-frame stand to each other. Assumes nothing.
-use Rattle.std.proofs.Common.{◌≡◌, ℕ, ◌+◌, ◌*◌, ◌<◌, ◌≤◌, mul-le-mul_right, add-mul, mul-add, arith}
+use Rattle.std.proofs.Common.{ℕ, ◌+◌, ◌*◌, ◌<◌, ◌≤◌, mul-le-mul_right, add-mul, arith}
 use Rattle.frame_layout.specs.Layout.{frame_size, super_size}
 use Rattle.super_frame.specs.Parts.{part}
 

@@ -1,10 +1,10 @@
 -- What was sent is read. Assumes nothing.
-use Rattle.std.proofs.Common.{◌≡◌, ℕ, ◌+◌, ◌-◌, ◌*◌, ◌/◌, ◌%◌, ◌<◌, ◌≤◌, List, length, get_or, take, drop, sym, refl, ap, ◌∙◌, subst, ⊎_elim, arith}
+use Rattle.std.proofs.Common.{◌≡◌, ℕ, ◌+◌, ◌-◌, ◌*◌, ◌/◌, ◌%◌, ◌<◌, ◌≤◌, List, length, get_or, take, drop, sym, ap, ◌∙◌, subst, ⊎_elim, arith}
 use lib.Bits.{bit_xor, xor_assoc, xor_self, xor_zero_r}
 use Rattle.std.proofs.lemmas.List.{ext_get_or, length-drop, length-take-le, get_or-take, get_or-drop}
 use Rattle.std.proofs.lemmas.Bool.{cases_eq}
 use Rattle.dispersal.specs.Stages.{sequence}
-use Rattle.frame_layout.specs.Layout.{frame_size, super_size, byte_at, head_byte, SuperFrame}
+use Rattle.frame_layout.specs.Layout.{frame_size, SuperFrame}
 use Rattle.frame_layout.proofs.Places.{within, sent, at_head, at_slot}
 use Rattle.frame_layout.proofs.Heads.{head_tmcc}
 use Rattle.super_frame.specs.Reads.{words_size, word_place, sent_at, Read, ReadBack}

@@ -1,9 +1,9 @@
 -- A slot's block interleaved between gathering and putting back. Assumes nothing.
-use Rattle.std.proofs.Common.{◌≡◌, ℕ, ◌+◌, ◌*◌, ◌/◌, ◌%◌, ◌<◌, List, get_or, Ok, Err, Result, sym, ap, ◌∙◌, arith}
+use Rattle.std.proofs.Common.{◌≡◌, ℕ, ◌+◌, ◌*◌, ◌/◌, ◌%◌, List, get_or, Ok, Err, Result, sym, ap, ◌∙◌, arith}
 use Rattle.interleaver.specs.Blocks.{interleaved}
 use Rattle.interleaver.specs.Calls.{Blocks, Moved}
 use Rattle.interleaver.proofs.Transposed.{get_or_transposed}
-use Rattle.super_frame.specs.Parts.{part, Gathered, InterleavedSlot}
+use Rattle.super_frame.specs.Parts.{Gathered, InterleavedSlot}
 
 -- a call on blocks is never refused
 pub moved_ok :

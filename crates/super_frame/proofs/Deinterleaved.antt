@@ -1,5 +1,5 @@
 -- A slot's words by its deinterleaved block. Assumes nothing.
-use Rattle.std.proofs.Common.{◌≡◌, ℕ, ◌+◌, ◌-◌, ◌*◌, ◌/◌, ◌%◌, ◌<◌, ◌≤◌, List, get_or, sym, ap, ◌∙◌, arith}
+use Rattle.std.proofs.Common.{◌≡◌, ℕ, ◌+◌, ◌*◌, ◌/◌, ◌%◌, List, get_or, ap, ◌∙◌, arith}
 use Rattle.interleaver.specs.Blocks.{place, deinterleaved}
 use Rattle.interleaver.proofs.Transposed.{get_or_transposed}
 use Rattle.super_frame.specs.Parts.{Gathered}

@@ -1,5 +1,5 @@
 -- A buffer of words in their parts, interleaved and with its heads, is a super-frame. Assumes nothing.
-use Rattle.std.proofs.Common.{◌≡◌, ℕ, ◌+◌, ◌-◌, ◌*◌, ◌/◌, ◌%◌, ◌<◌, ◌≤◌, List, length, get_or, sym, ap, ◌∙◌, mul-le-mul_right, arith}
+use Rattle.std.proofs.Common.{◌≡◌, ℕ, ◌+◌, ◌*◌, ◌/◌, ◌%◌, ◌<◌, ◌≤◌, List, length, get_or, ap, ◌∙◌, mul-le-mul_right, arith}
 use Rattle.frame_layout.specs.Layout.{frame_size, super_size, head_byte, SuperFrame}
 use Rattle.frame_layout.proofs.Places.{sent, dispersed_is}
 use Rattle.frame_layout.proofs.Wholes.{super_frame_from}

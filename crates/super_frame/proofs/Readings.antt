@@ -1,5 +1,5 @@
 -- What is read, from the words taken and the sequence taken off. Assumes nothing.
-use Rattle.std.proofs.Common.{◌≡◌, ℕ, ◌+◌, ◌*◌, ◌<◌, List, ap, ◌∙◌}
+use Rattle.std.proofs.Common.{ℕ, ◌+◌, ◌*◌, ◌<◌, List, ap, ◌∙◌}
 use lib.Bits.{bit_xor}
 use Rattle.dispersal.specs.Stages.{sequence}
 use Rattle.super_frame.specs.Reads.{word_place, Taken, OffWords, TmccRead, Read}

@@ -1,8 +1,8 @@
 -- One more row of a block gathered from its part, or put back into it. Assumes nothing.
-use Rattle.std.proofs.Common.{◌≡◌, ℕ, ◌+◌, ◌*◌, ◌<◌, ◌≤◌, ◌≢◌, ◌⊎◌, List, length, get_or, sym, ap, ◌∙◌, subst, inl, inr, ⊎_elim, arith}
+use Rattle.std.proofs.Common.{◌≡◌, ℕ, ◌+◌, ◌*◌, ◌<◌, ◌≤◌, ◌≢◌, ◌⊎◌, List, get_or, sym, ap, ◌∙◌, inl, inr, ⊎_elim, arith}
 use Rattle.std.proofs.lemmas.Bool.{cases_eq, cases_lt}
 use Rattle.frame_layout.specs.Layout.{frame_size}
-use Rattle.super_frame.specs.Parts.{part, Copied, SameHeads, SameSlot}
+use Rattle.super_frame.specs.Parts.{part, Copied}
 use Rattle.super_frame.proofs.Apart.{frames_apart}
 
 -- the rows below n of a block are the parts of a slot

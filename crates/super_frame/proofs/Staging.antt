@@ -1,15 +1,14 @@
 -- One more word put into its part. Assumes nothing.
-use Rattle.std.proofs.Common.{◌≡◌, ℕ, zero, ◌+◌, ◌*◌, ◌/◌, ◌%◌, ◌<◌, ◌≤◌, ◌≢◌, ◌⊎◌, List, length, get_or, drop, sym, refl, ap, ◌∙◌, subst, ⊎_elim, arith}
-use lib.Bits.{bit_xor}
+use Rattle.std.proofs.Common.{◌≡◌, ℕ, ◌+◌, ◌*◌, ◌/◌, ◌%◌, ◌<◌, List, length, get_or, drop, sym, refl, ap, ◌∙◌, subst, ⊎_elim, arith}
 use Rattle.std.proofs.lemmas.Nat.{div-mul-add, mod-mul-add}
 use Rattle.std.proofs.lemmas.List.{length-drop, get_or-drop}
 use Rattle.std.proofs.lemmas.Bool.{cases_eq}
-use Rattle.dispersal.specs.Stages.{sequence, added}
+use Rattle.dispersal.specs.Stages.{added}
 use Rattle.dispersal.proofs.Added.{length_added, get_or_added}
 use Rattle.frame_layout.specs.Layout.{dispersed}
 use Rattle.frame_layout.proofs.Places.{dispersed_is}
 use Rattle.super_frame.specs.Parts.{part, Copied, Put, Staged}
-use Rattle.super_frame.proofs.Rows.{left_part, put_here}
+use Rattle.super_frame.proofs.Rows.{left_part}
 
 -- what is put at a place is copied from its own beginning on
 pub put_copied :

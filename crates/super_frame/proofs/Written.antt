@@ -1,11 +1,10 @@
 -- Whoever reads what was written reads the packets' words. Assumes nothing.
-use Rattle.std.proofs.Common.{◌≡◌, ℕ, ◌+◌, ◌-◌, ◌*◌, ◌<◌, ◌≤◌, true, List, length, get_or, take, drop, sym, refl, ap, ◌∙◌, subst, arith}
+use Rattle.std.proofs.Common.{◌≡◌, ℕ, ◌+◌, ◌-◌, List, length, get_or, take, drop, sym, ap, ◌∙◌, subst, arith}
 use Rattle.std.proofs.lemmas.List.{get_or-take}
 use Rattle.frame_layout.specs.Layout.{SuperFrame}
-use Rattle.slot_plan.specs.Layout.{active}
 use Rattle.slot_plan.specs.declared.fields.Fields.{Fields}
-use Rattle.super_frame.specs.Carried.{packet_at, IsSlotWord, Carries, AllCarried, ReadAgain, Written}
-use Rattle.super_frame.specs.Reads.{word_place, words_size, Read}
+use Rattle.super_frame.specs.Carried.{packet_at, IsSlotWord, AllCarried, ReadAgain, Written}
+use Rattle.super_frame.specs.Reads.{word_place}
 use Rattle.super_frame.proofs.Backs.{read_back}
 
 module _ (p : Fields) (tmcc packets out : List ℕ) (words : ℕ → ℕ → List ℕ) (carried : AllCarried p packets words) (bytes : SuperFrame p.slots tmcc words out) where

@@ -1,6 +1,6 @@
 -- The parts of a super-frame, while it is put together or taken apart. Frames and slots count from 0 here, as in the code.
 -- Assumes nothing.
-use Rattle.std.specs.Prelude.{◌≡◌, ℕ, ◌+◌, ◌*◌, ◌/◌, ◌%◌, ◌<◌, ◌≤◌, ◌≢◌, List, length, slice_index, slice_index_or}
+use Rattle.std.specs.Prelude.{◌≡◌, ℕ, ◌+◌, ◌*◌, ◌/◌, ◌%◌, ◌<◌, ◌≤◌, List, length, slice_index, slice_index_or}
 use Rattle.frame_layout.specs.Layout.{frame_size, head_byte, dispersed}
 
 -- where a slot's 203 bytes in a frame begin

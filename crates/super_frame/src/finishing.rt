@@ -7,7 +7,7 @@ use crate::heads::write_heads;
 use crate::interleaving::interleave_slots;
 
 // Makes a super-frame of a buffer in which every word stands in its part: interleaves the slots and writes the heads.
-pub(crate) fn finish(bytes: &mut [u8], slots: u8, tmcc: &[u8; 64])
+pub fn finish(bytes: &mut [u8], slots: u8, tmcc: &[u8; 64])
     requires { length bytes.old ≡ super_size slots }
     ensures { (words : ℕ → ℕ → List ℕ) → Staged slots words (8 * slots) bytes.old → SuperFrame slots tmcc.now words bytes.new }
 {

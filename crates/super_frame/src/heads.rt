@@ -46,7 +46,7 @@ fn write_head(bytes: &mut [u8], slots: u8, frame: u8, tmcc: &[u8; 64], sequence:
 }
 
 // Writes the heads of all frames.
-pub(crate) fn write_heads(bytes: &mut [u8], slots: u8, tmcc: &[u8; 64])
+pub fn write_heads(bytes: &mut [u8], slots: u8, tmcc: &[u8; 64])
     requires { length bytes.old ≡ super_size slots }
     ensures heads { (frame i : ℕ) → frame < 8 → i < 12 → slice_index bytes.new (frame * frame_size slots + i) ≡ head_byte tmcc.now (frame + 1) i }
     ensures slots { (slot : ℕ) → slot < slots → SameSlot slots bytes.old bytes.new slot }

@@ -21,7 +21,7 @@ fn interleave_slot(bytes: &mut [u8], slots: u8, slot: u8)
 }
 
 // Interleaves the blocks of all slots.
-pub(crate) fn interleave_slots(bytes: &mut [u8], slots: u8)
+pub fn interleave_slots(bytes: &mut [u8], slots: u8)
     requires { length bytes.old ≡ super_size slots }
     ensures slots { (slot : ℕ) → slot < slots → InterleavedSlot slots bytes.old bytes.new slot }
     ensures heads { SameHeads slots bytes.old bytes.new }

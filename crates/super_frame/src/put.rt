@@ -35,7 +35,7 @@ pub(crate) fn put_sync(bytes: &mut [u8], to: usize, word: u16)
 }
 
 // Puts a word into the part of its frame and slot, both counted from 0, as a row of the slot's block. The sequence moves on by a whole word.
-pub(crate) fn put_word(
+pub fn put_word(
     bytes: &mut [u8],
     sequence: &mut Sequence,
     slots: u8,

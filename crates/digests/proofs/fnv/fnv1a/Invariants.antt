@@ -1,4 +1,4 @@
-use Rattle.std.proofs.Common.{◌≡◌, ◌^◌, ◌<◌, take, fold}
+use Rattle.std.proofs.Common.{◌≡◌, take, fold}
 use Rattle.digests.specs.Digests.{fnv_step}
 use Rattle.digests.proofs.fnv.fnv1a.Given as goal
 

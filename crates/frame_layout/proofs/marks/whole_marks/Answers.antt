@@ -1,7 +1,6 @@
-use Rattle.std.proofs.Common.{◌≡◌, ℕ, zero, suc, ◌+◌, ◌-◌, ◌*◌, ◌≤◌, cond, refl, mul-le-mul_right, add-mul, arith}
-use Rattle.std.proofs.lemmas.Bool.Decides.{nat_tests}
-use Rattle.frame_layout.specs.Layout.{frame_size, own}
-use Rattle.frame_layout.specs.Marks.{marked, whole_up_to}
+use Rattle.std.proofs.Common.{◌≤◌, refl, mul-le-mul_right, add-mul, arith}
+use Rattle.frame_layout.specs.Layout.{frame_size}
+use Rattle.frame_layout.specs.Marks.{whole_up_to}
 use Rattle.frame_layout.proofs.Whole.{whole_more}
 use Rattle.frame_layout.proofs.marks.whole_marks.Goals as goal
 

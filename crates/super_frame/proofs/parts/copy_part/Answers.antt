@@ -1,4 +1,4 @@
-use Rattle.std.proofs.Common.{◌≡◌, ◌+◌, ◌-◌, ◌<◌, ◌≤◌, length, get_or, take, drop, ap, ◌∙◌, arith}
+use Rattle.std.proofs.Common.{◌≡◌, ◌+◌, ◌-◌, ◌≤◌, length, take, drop, ap, ◌∙◌, arith}
 use Rattle.std.proofs.lemmas.List.Edits.{length-between, get_or-between}
 use Rattle.super_frame.proofs.Overwritten.{put_length, put_below, put_in, put_above}
 use Rattle.super_frame.proofs.parts.copy_part.Goals as goal
@@ -10,8 +10,8 @@ returns g c =
     let into = c.args.into.now in
     let at = c.args.at in
     let to = c.args.to in
-    let now = c.copy-from-slice.new.self in
-    let copied : now ≡ take (at + 203 - at) (drop at from) = c.copy-from-slice.ensures.after in
+    let now = c.copy_from_slice.new.self in
+    let copied : now ≡ take (at + 203 - at) (drop at from) = c.copy_from_slice.ensures.after in
     let k : to + 203 - to ≡ 203 = omega arith in
     let fits : to + (to + 203 - to) ≤ length into = omega (arith, c.requires.1) in
     let part : length (take (at + 203 - at) (drop at from)) ≡ at + 203 - at = length-between from at (at + 203) c.requires.0 in

@@ -1,10 +1,10 @@
-use Rattle.std.proofs.Common.{◌≡◌, ◌*◌, ◌∙◌, arith}
+use Rattle.std.proofs.Common.{◌*◌, ◌∙◌, arith}
 use Rattle.super_frame.proofs.Apart.{part_within}
 use Rattle.super_frame.proofs.Rows.{scattered_more, left_head, left_part}
 use Rattle.super_frame.proofs.parts.scatter.Goals as goal
 
-pub copy-part-requires : goal.copy-part-requires
-copy-part-requires c =
+pub copy_part-requires : goal.copy_part-requires
+copy_part-requires c =
     (omega arith, omega (arith, part_within c.args.slots c.loop-frame.frame c.args.slot (omega arith) c.requires.1))
 
 pub loop-frame-preserved : goal.loop-frame-preserved
@@ -13,15 +13,15 @@ loop-frame-preserved c =
     let slot = c.args.slot in
     let n = c.loop-frame.frame in
     let at = 203 * c.from.result in
-    let to = c.part-start.result in
+    let to = c.part_start.result in
     let block = c.args.block.now in
     let before = c.loop-frame.bytes in
-    let after = c.copy-part.new.into in
-    let copied = c.copy-part.ensures in (
-      scattered_more slots slot n at to block before after c.requires.1 (omega arith) c.part-start.ensures copied c.loop-frame.invariant.0,
-      λ frame i hf hi. left_head 0 slots slot n at to block before after c.requires.1 c.part-start.ensures copied frame i hi ∙ c.loop-frame.invariant.1 frame i hf hi,
+    let after = c.copy_part.new.into in
+    let copied = c.copy_part.ensures in (
+      scattered_more slots slot n at to block before after c.requires.1 (omega arith) c.part_start.ensures copied c.loop-frame.invariant.0,
+      λ frame i hf hi. left_head 0 slots slot n at to block before after c.requires.1 c.part_start.ensures copied frame i hi ∙ c.loop-frame.invariant.1 frame i hf hi,
       λ other ho ne frame i hf hi.
-          left_part 0 slots slot n at to block before after c.requires.1 c.part-start.ensures copied frame other i ho hi (λ _. ne)
+          left_part 0 slots slot n at to block before after c.requires.1 c.part_start.ensures copied frame other i ho hi (λ _. ne)
           ∙ c.loop-frame.invariant.2 other ho ne frame i hf hi,
     )
 

@@ -1,4 +1,4 @@
-use Rattle.std.proofs.Common.{◌≡◌, ℕ, ◌+◌, ◌-◌, ◌<◌, ◌≤◌, length, get_or, ap, ◌∙◌, subst, arith}
+use Rattle.std.proofs.Common.{◌≡◌, ℕ, ◌+◌, ◌-◌, ◌≤◌, length, get_or, ap, ◌∙◌, subst, arith}
 use Rattle.dispersal.specs.Stages.{At, added}
 use Rattle.dispersal.proofs.Added.{length_added}
 use Rattle.super_frame.proofs.Overwritten.{put_length, put_below, put_in, put_above}
@@ -11,7 +11,7 @@ returns c =
     let to = c.args.to in
     let k = to + length from - to in
     let now = c.add.new.bytes in
-    let copied = c.copy-from-slice.ensures.after in
+    let copied = c.copy_from_slice.ensures.after in
     let fits : to + k ≤ length bytes = omega (arith, c.requires) in
     record {
       put = λ n at.

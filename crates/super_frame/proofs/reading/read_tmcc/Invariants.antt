@@ -1,4 +1,4 @@
-use Rattle.std.proofs.Common.{◌≡◌, ℕ, ◌*◌, length}
+use Rattle.std.proofs.Common.{◌≡◌, ◌*◌, length}
 use Rattle.dispersal.specs.Stages.{At}
 use Rattle.super_frame.specs.Reads.{TmccRead}
 use Rattle.super_frame.proofs.reading.read_tmcc.Given as goal

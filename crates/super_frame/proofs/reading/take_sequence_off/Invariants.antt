@@ -1,4 +1,4 @@
-use Rattle.std.proofs.Common.{◌≡◌, ℕ, ◌+◌, ◌*◌, ◌<◌, ◌≤◌, get_or}
+use Rattle.std.proofs.Common.{◌≡◌, ℕ, ◌*◌, ◌≤◌, get_or}
 use Rattle.dispersal.specs.Stages.{At}
 use Rattle.super_frame.specs.Reads.{OffWords}
 use Rattle.super_frame.proofs.reading.take_sequence_off.Given as goal

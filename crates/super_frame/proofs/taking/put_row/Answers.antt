@@ -1,4 +1,4 @@
-use Rattle.std.proofs.Common.{◌≡◌, ℕ, ◌+◌, ◌*◌, ◌<◌, ◌≤◌, length, get_or, sym, ap, ◌∙◌, arith}
+use Rattle.std.proofs.Common.{◌≡◌, ℕ, ◌+◌, ◌*◌, get_or, ap, ◌∙◌, arith}
 use Rattle.std.proofs.lemmas.List.{get_or-set_same, get_or-set_other}
 use Rattle.super_frame.proofs.taking.put_row.Goals as goal
 
@@ -9,8 +9,8 @@ returns g c =
     let words = c.args.words.now in
     let start = c.args.start in
     let first = c.args.first in
-    let after = c.copy-part.new.into in
-    let copied = c.copy-part.ensures in
+    let after = c.copy_part.new.into in
+    let copied = c.copy_part.ensures in
     record {
       begins = copied.below start (omega arith) ∙ get_or-set_same words start first rest (omega (arith, c.requires.2));
       row = λ i h.

@@ -7,8 +7,8 @@ pub loop-frame-init : goal.loop-frame-init
 loop-frame-init g c =
     (record { begins = λ frame h. absurd (omega (arith, h)); row = λ frame i h. absurd (omega (arith, h)) }, λ other _ _ frame i _ _. refl)
 
-pub put-row-requires : goal.put-row-requires
-put-row-requires g c =
+pub put_row-requires : goal.put_row-requires
+put_row-requires g c =
     (c.requires.0, c.loop-frame-test.true, omega (arith, word_within c.args.slots c.loop-frame.frame c.args.slot c.loop-frame-test.true c.requires.1))
 
 pub loop-frame-preserved : goal.loop-frame-preserved
@@ -18,13 +18,13 @@ loop-frame-preserved g c =
     let slots = c.args.slots in
     let slot = c.args.slot in
     let n = c.loop-frame.frame in
-    let start = c.word-start.result in
+    let start = c.word_start.result in
     let rows = c.args.rows.now in
     let before = c.loop-frame.words in
-    let after = c.put-row.new.words in (
-      rows_more rest first slots slot n start rows before after c.requires.1 c.word-start.ensures c.put-row.ensures c.loop-frame.invariant.0,
+    let after = c.put_row.new.words in (
+      rows_more rest first slots slot n start rows before after c.requires.1 c.word_start.ensures c.put_row.ensures c.loop-frame.invariant.0,
       λ other ho ne frame i hf hi.
-          others_left rest first slots slot n start rows before after c.requires.1 c.word-start.ensures c.put-row.ensures other ho ne frame i hf hi
+          others_left rest first slots slot n start rows before after c.requires.1 c.word_start.ensures c.put_row.ensures other ho ne frame i hf hi
           ∙ c.loop-frame.invariant.1 other ho ne frame i hf hi,
     )
 

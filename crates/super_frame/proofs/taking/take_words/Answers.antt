@@ -1,4 +1,4 @@
-use Rattle.std.proofs.Common.{◌≡◌, ℕ, sym, subst, ⊎_elim, arith}
+use Rattle.std.proofs.Common.{ℕ, sym, subst, ⊎_elim, arith}
 use Rattle.std.proofs.lemmas.Bool.{cases_eq}
 use Rattle.super_frame.specs.Reads.{Taken}
 use Rattle.super_frame.proofs.Takings.{taken_left}
@@ -10,14 +10,14 @@ loop-slot-preserved g c =
     let first = c.args.first in
     let slots = c.args.slots in
     let stream = c.args.stream.now in
-    let after = c.take-slot.new.words in (
+    let after = c.take_slot.new.words in (
       omega arith,
       omega arith,
       λ s h.
           ⊎_elim
-          (λ e. subst (λ (t : ℕ). Taken rest first slots stream after t) (sym e) c.take-slot.ensures.here)
+          (λ e. subst (λ (t : ℕ). Taken rest first slots stream after t) (sym e) c.take_slot.ensures.here)
           (λ ne.
           taken_left rest first slots s stream c.loop-slot.words after
-          (c.take-slot.ensures.others s (omega (arith, h, c.loop-slot-test.true)) ne) (c.loop-slot.invariant.2 s (omega (arith, h, ne))))
+          (c.take_slot.ensures.others s (omega (arith, h, c.loop-slot-test.true)) ne) (c.loop-slot.invariant.2 s (omega (arith, h, ne))))
           (cases_eq s c.loop-slot.slot),
     )

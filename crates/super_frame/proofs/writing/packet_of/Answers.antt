@@ -1,4 +1,4 @@
-use Rattle.std.proofs.Common.{◌≡◌, ℕ, ◌+◌, ◌-◌, ◌*◌, ◌<◌, ◌≤◌, List, length, take, drop, refl, ap, ◌∙◌, add-sub_cancel, arith}
+use Rattle.std.proofs.Common.{◌≡◌, ℕ, ◌+◌, ◌-◌, ◌*◌, List, take, drop, refl, ap, ◌∙◌, add-sub_cancel, arith}
 use Rattle.std.proofs.lemmas.List.Edits.{length-between}
 use Rattle.super_frame.proofs.Finished.{number_below}
 use Rattle.super_frame.specs.Carried.{packet_at}
@@ -16,8 +16,8 @@ taken packets slots frame slot start e =
     let k : start + 188 - start ≡ 188 = omega arith in
     rw (k, e, add-sub_cancel frame 1, add-sub_cancel slot 1) refl
 
-pub slice-bounds-result-end : goal.slice-bounds-result-end
-slice-bounds-result-end c =
+pub slice_bounds-result-end : goal.slice_bounds-result-end
+slice_bounds-result-end c =
     omega (
       arith,
       number c.from.result c.from-2.result c.from-3.result c.args.frame c.args.slots c.args.slot c.from.ensures c.from-2.ensures c.from-3.ensures,

@@ -1,4 +1,4 @@
-use Rattle.std.proofs.Common.{◌≡◌, ℕ, ◌+◌, ◌*◌, List, sym, ap, subst, arith}
+use Rattle.std.proofs.Common.{◌≡◌, ℕ, ◌*◌, sym, subst, arith}
 use Rattle.frame_layout.specs.Layout.{SuperFrame}
 use Rattle.super_frame.specs.Parts.{Staged}
 use Rattle.super_frame.specs.Progress.{Begun}
@@ -8,7 +8,7 @@ use Rattle.super_frame.proofs.writing.write.Goals as goal
 
 pub loop-frame-init : goal.loop-frame-init
 loop-frame-init c =
-    begun_none c.args.plan.now.fields c.args.packets.now c.new-sequence.result.window c.args.out.now c.new-sequence.ensures
+    begun_none c.args.plan.now.fields c.args.packets.now c.new-sequence.result.window c.args.out.now c.new-sequence.ensures.start
 
 pub returns : goal.returns
 returns c =

@@ -1,7 +1,7 @@
-use Rattle.std.proofs.Common.{◌≡◌, ℕ, ◌+◌, ◌*◌, ◌<◌, List, length, get_or, sym, ap, ◌∙◌, div-one, arith}
+use Rattle.std.proofs.Common.{◌≡◌, ℕ, ◌+◌, ◌*◌, ◌<◌, List, get_or, sym, ap, ◌∙◌, div-one, arith}
 use lib.Bits.{bit_xor}
 use Rattle.std.proofs.lemmas.List.{ext_get_or}
-use Rattle.dispersal.specs.Stages.{At, added, bits, sequence}
+use Rattle.dispersal.specs.Stages.{added, bits, sequence}
 use Rattle.dispersal.proofs.Added.{length_added, get_or_added}
 use Rattle.dispersal.proofs.Windows.{octets, octet_bits}
 use Rattle.dispersal.proofs.sequence.Sequence.add_group.Goals as goal

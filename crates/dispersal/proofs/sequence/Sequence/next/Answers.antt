@@ -9,7 +9,10 @@ overflow_add-self c = omega (arith, passed_below 8 104 c.args.self.now.window c.
 pub invariant_of-self : goal.invariant_of-self
 invariant_of-self c =
     let w = c.args.self.now.window in
-    (passed_below 8 104 w c.args.self.now.room, (reached_on w (passed 8 104 w) 1 (after_byte w) c.args.self.now.reached, tt))
+    record {
+      room = passed_below 8 104 w c.args.self.now.room;
+      reached = reached_on w (passed 8 104 w) 1 (after_byte w) c.args.self.now.reached;
+    }
 
 pub returns : goal.returns
 returns c = let w = c.args.self.now.window in record { byte = at_byte w; place = after_byte w }

@@ -9,7 +9,10 @@ overflow_add-self c = omega (arith, passed_below 64 48 c.args.self.now.window c.
 pub invariant_of-self : goal.invariant_of-self
 invariant_of-self c =
     let w = c.args.self.now.window in
-    (passed_below 64 48 w c.args.self.now.room, (reached_on w (passed 64 48 w) 8 (after_eight w) c.args.self.now.reached, tt))
+    record {
+      room = passed_below 64 48 w c.args.self.now.room;
+      reached = reached_on w (passed 64 48 w) 8 (after_eight w) c.args.self.now.reached;
+    }
 
 pub returns : goal.returns
 returns c = let w = c.args.self.now.window in record { bytes = at_eight w; place = after_eight w }
