@@ -1,4 +1,6 @@
 // A feed: packets that wait in eight streams, and are taken one by one.
+#![tactic(auto)]
+
 ghost use Rattle.std.specs.Prelude.{◌≡◌, false, length};
 ghost use Rattle.feed.specs.Packets.{Lists, WellFormed};
 ghost use Rattle.feed.specs.Takes.{Took};

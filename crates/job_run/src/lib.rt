@@ -1,4 +1,6 @@
 // The run of the modulator that a job asks for, with the files that the job names.
+#![tactic(auto)]
+
 mod files;
 mod run;
 

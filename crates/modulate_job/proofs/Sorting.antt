@@ -1,8 +1,5 @@
 -- Words sorted one by one.
-use Rattle.std.proofs.Common.{◌≡◌, ℕ, ◌+◌, ◌<◌, Bool, true, false, cond, not, List, [], ◌∷◌, ◌++◌, length, get_or, take, codes, filter, sym, refl, ap, ◌∙◌, ⊎_elim}
-use Rattle.std.proofs.lemmas.Slice.Eq.{bytes_eq-Decides}
-use Rattle.std.proofs.lemmas.Bool.{cases_Bool}
-use Rattle.std.specs.Str.{bytes_eq}
+use Rattle.std.proofs.Common.{◌≡◌, ℕ, ◌+◌, ◌<◌, Bool, true, false, cond, not, List, [], ◌∷◌, ◌++◌, length, get_or, take, filter, sym, refl, ap, ◌∙◌}
 use Rattle.std.proofs.lemmas.List.Elements.{filter_more}
 use Rattle.std.proofs.lemmas.List.Sums.{fold_more}
 use Rattle.modulate_job.specs.Flags.{is_flag, Sorted}
@@ -27,9 +24,3 @@ sorted_more texts i text asked next flag before after within here s f a p =
           ∙ ap (λ (b : Bool). cond (is_flag (get_or texts i [])) true b) s.flag
           ∙ sym (fold_more (λ seen word. cond (is_flag word) true seen) false texts i [] within);
     }
-
--- a word that is another than the flag
-pub no_flag : (word : List ℕ) → (word ≡ codes "--progress" → ⊥) → false ≡ is_flag word
-unfolding is_flag
-no_flag word other =
-    ⊎_elim (λ e. absurd (other ((bytes_eq-Decides word (codes "--progress")).0 e))) (λ e. sym e) (cases_Bool (bytes_eq word (codes "--progress")))

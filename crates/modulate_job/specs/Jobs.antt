@@ -1,5 +1,5 @@
 -- What words ask for. Assumes nothing.
-use Rattle.std.specs.Prelude.{◌≡◌, ℕ, ◌+◌, ◌-◌, ◌*◌, ◌%◌, ◌^◌, ◌<◌, ◌≤◌, List, [], ◌∷◌, length, drop, vec_items, slice_index_or}
+use Rattle.std.specs.Prelude.{◌≡◌, ℕ, ◌+◌, ◌-◌, ◌*◌, ◌%◌, ◌^◌, ◌<◌, ◌≤◌, List, [], length, drop, vec_items, slice_index_or}
 use Rattle.modulate_job.specs.Numbers.{Number}
 use Rattle.modulate_job.specs.Packets.{Names}
 use Rattle.modulate_job.specs.declared.changes.Change.{Change}

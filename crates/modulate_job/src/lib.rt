@@ -1,4 +1,6 @@
 // What the words of modulate's command line ask for.
+#![tactic(auto)]
+
 mod asking;
 mod changes;
 mod counts;

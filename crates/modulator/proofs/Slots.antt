@@ -1,6 +1,6 @@
 -- The packet of a slot, by what the plan tells of the slot.
 use Rattle.std.proofs.Common.{◌≡◌, ℕ, Bool, true, false, cond, eqb, get_or, drop, sym, refl, ap, ◌∙◌, arith}
-use Rattle.slot_plan.specs.Layout.{active, stream}
+use Rattle.slot_plan.specs.Layout.{active}
 use Rattle.slot_plan.specs.Views.{role_of, Tells}
 use Rattle.slot_plan.specs.declared.fields.Fields.{Fields}
 use Rattle.slot_plan.specs.declared.slots.Role.TheVariants.{Active, Dummy}

@@ -1,4 +1,6 @@
 // The modulator: bare until it is loaded with a plan, and then it fills super-frames.
+#![tactic(auto)]
+
 mod fault;
 mod filling;
 mod loading;

@@ -1,16 +1,15 @@
 -- Runs that go on, super-frame by super-frame.
-use Rattle.std.proofs.Common.{◌≡◌, ℕ, suc, ◌+◌, ◌<◌, Bool, cond, List, [], ◌∷◌, length, get_or, take, IfOk, Ok, Err, Result, sym, refl, ap, ◌∙◌, subst, add-one, eq-eqb, ne_eqb}
+use Rattle.std.proofs.Common.{◌≡◌, ℕ, suc, ◌+◌, ◌<◌, Bool, cond, List, [], ◌∷◌, length, get_or, take, IfOk, Ok, Err, Result, sym, refl, ap, ◌∙◌, subst, add-one, arith, eq-eqb, ne_eqb}
 use Rattle.std.proofs.lemmas.List.Sums.{fold_more}
 use Rattle.slot_plan.specs.declared.fields.Fields.{Fields}
 use Rattle.plan_formats.proofs.Stowed.{keeps_same}
 use Rattle.feed.specs.Packets.{Lists}
-use Rattle.modulator.specs.Fills.{Sent}
 use Rattle.modulator.specs.Runs.{Run, filled, FillContinues}
 use Rattle.modulator.specs.declared.state.Loaded.{Loaded}
 use Rattle.modulator.specs.declared.state.Tally.{Tally}
 use Rattle.modulator.proofs.Lossless.{lossless}
 use Rattle.transmission.specs.Plans.{OnAir, loaded, installed, after_install, due, on_air}
-use Rattle.transmission.specs.Transmissions.{Airs, Continues, HasPlan, FillsOn, Planned, Written, Reached, Transmitted}
+use Rattle.transmission.specs.Transmissions.{Airs, Continues, HasPlan, FillsOn, Planned, Written, Reached, Transmitted, GoesOn, WholeRun}
 use Rattle.transmission.specs.declared.install.Install.{Install}
 
 -- what follows from the answer of a call that went well
@@ -79,6 +78,32 @@ whole p installs n m before after frames r =
       last = m;
       lawful = record { run = r.run; law = lossless before m after r.sent r.run };
     }
+
+-- of which no packet is lost or doubled
+pub lossless_run :
+    (p : Fields) (installs : List Install) (n : ℕ) (before after : Lists) (frames : List (List ℕ)) → Transmitted p installs n before after frames →
+    WholeRun n before after
+lossless_run p installs n before after frames t = (t.last, t.sent, t.number, t.lawful)
+
+-- every run goes on to a modulator that continues it, by no super-frame
+pub stays : (m next : Loaded) → Continues m next → (waiting : Lists) → GoesOn 0 m waiting next waiting
+stays m next on waiting = λ start earlier run.
+    let r = on start waiting earlier run in
+    (earlier, omega arith, record { run = r; law = lossless start next waiting earlier r })
+
+-- by the super-frame of a fill
+pub fill_goes :
+    (m : Loaded) (before after : Lists) (tally : Tally) (out : List ℕ) → FillContinues m before (Ok tally) out after → GoesOn 1 m before m after
+fill_goes m before after tally out f = λ start earlier run. (f.0 ∷ earlier, omega arith, f.2 start earlier run)
+
+-- by one super-frame more
+pub goes_more :
+    (n : ℕ) (m now next : Loaded) (before waiting after : Lists) → GoesOn n m before now waiting → Continues now next →
+    GoesOn 1 next waiting next after → GoesOn (n + 1) m before next after
+goes_more n m now next before waiting after past on one = λ start earlier run.
+    let before_it = past start earlier run in
+    let more = one start before_it.0 (on start waiting before_it.0 before_it.2.run) in
+    (more.0, omega (arith, before_it.1, more.1), more.2)
 
 module _ (n : ℕ) (installs : List Install) (i : ℕ) (next : Install) (from m : Loaded) (within : i < length installs)
     (here : next ≡ get_or installs i next) (before : (a : OnAir) → Airs from a → Airs m (due n (take i installs) a)) where

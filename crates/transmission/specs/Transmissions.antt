@@ -1,5 +1,5 @@
 -- What a run does to the modulator and the feed. Assumes nothing.
-use Rattle.std.specs.Prelude.{◌≡◌, ℕ, suc, List, [], ◌∷◌, length}
+use Rattle.std.specs.Prelude.{◌≡◌, ℕ, suc, ◌+◌, List, [], ◌∷◌, length}
 use Rattle.slot_plan.specs.declared.fields.Fields.{Fields}
 use Rattle.feed.specs.Packets.{Lists}
 use Rattle.modulator.specs.Fills.{Sent, Has, Filled}
@@ -56,3 +56,13 @@ pub record Transmitted (p : Fields) (installs : List Install) (n : ℕ) (before 
   pub written : Written sent frames
   pub last : Loaded
   pub lawful : Lawful before last after sent
+
+-- Whatever run led to the first modulator and the first lists, it goes on to the second by so many super-frames, and keeps the law.
+abbrev pub GoesOn : ℕ → Loaded → Lists → Loaded → Lists → Type 0
+GoesOn n m before next after =
+    (start : Lists) (earlier : List Sent) → Run start m before earlier →
+    (sent : List Sent) × (length sent ≡ length earlier + n) × Lawful start next after sent
+
+-- A whole run, from a load on, sends so many super-frames and takes the lists from the first to the second: no packet is lost or doubled.
+abbrev pub WholeRun : ℕ → Lists → Lists → Type 0
+WholeRun n before after = (m : Loaded) × (sent : List Sent) × (length sent ≡ n) × Lawful before m after sent

@@ -1,4 +1,6 @@
 // A run of the modulator: super-frames, installs of plans in between, and what is told of them.
+#![tactic(auto)]
+
 mod event;
 mod install;
 mod outlet;

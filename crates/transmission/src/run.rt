@@ -7,7 +7,7 @@ ghost use Rattle.slot_plan.specs.declared.fields.Fields.{Fields};
 ghost use Rattle.transmission.specs.declared.event.Event.TheVariants.{Filled, Total};
 ghost use Rattle.transmission.specs.Courses.{Course, HearsOn, SendsOn};
 ghost use Rattle.transmission.specs.Plans.{OnAir, loaded, installed, install_told, due};
-ghost use Rattle.transmission.specs.Transmissions.{Airs, Continues, FillsOn, Reached, Transmitted};
+ghost use Rattle.transmission.specs.Transmissions.{Airs, Continues, FillsOn, Reached, Transmitted, GoesOn, WholeRun};
 
 use crate::event::Event;
 use crate::install::{Install, Stated};
@@ -63,6 +63,7 @@ fn install_due<O: Outlet>(
 ) -> anyhow::Result<()>
     ensures state { OnOk result ((a : OnAir) → Airs modulator.old a → Airs modulator.new (due number installs.now a)) }
     ensures run { Continues modulator.old modulator.new }
+    ensures goes_on { (waiting : Lists) → GoesOn 0 modulator.old waiting modulator.new waiting }
     ensures frame { modulator.new.kept.slots ≡ modulator.old.kept.slots }
     ensures course { OnOk result (HearsOn O.Outlet.sends O.Outlet.hears outlet.old outlet.new) }
 {
@@ -96,7 +97,8 @@ fn fill<F: Feed, O: Outlet>(
     outlet: &mut O,
 ) -> anyhow::Result<()>
     requires { length buffer.old ≡ super_size modulator.now.kept.slots }
-    ensures { OnOk result ((bytes : List ℕ) × ((a : OnAir) → Airs modulator.now a → FillsOn a modulator.now (F.Feed.lists feed.old) bytes (F.Feed.lists feed.new)) × SendsOn O.Outlet.sends O.Outlet.hears outlet.old bytes outlet.new) }
+    ensures fills { OnOk result ((bytes : List ℕ) × ((a : OnAir) → Airs modulator.now a → FillsOn a modulator.now (F.Feed.lists feed.old) bytes (F.Feed.lists feed.new)) × SendsOn O.Outlet.sends O.Outlet.hears outlet.old bytes outlet.new) }
+    ensures goes_on { OnOk result (GoesOn 1 modulator.now (F.Feed.lists feed.old) modulator.now (F.Feed.lists feed.new)) }
 {
     let Ok(tally) = modulator.fill(feed, buffer) else {
         unreachable()
@@ -115,7 +117,8 @@ fn send_all<F: Feed, O: Outlet>(
     outlet: &mut O,
 ) -> anyhow::Result<()>
     requires { length buffer.old ≡ super_size modulator.old.kept.slots }
-    ensures { OnOk result ((p : Fields) (start : Lists) → Reached p installs.now start 0 modulator.old (F.Feed.lists feed.old) [] → (frames : List (List ℕ)) × Reached p installs.now start count modulator.new (F.Feed.lists feed.new) frames × Course O.Outlet.sends O.Outlet.hears outlet.old outlet.new frames) }
+    ensures reached { OnOk result ((p : Fields) (start : Lists) → Reached p installs.now start 0 modulator.old (F.Feed.lists feed.old) [] → (frames : List (List ℕ)) × Reached p installs.now start count modulator.new (F.Feed.lists feed.new) frames × Course O.Outlet.sends O.Outlet.hears outlet.old outlet.new frames) }
+    ensures goes_on { OnOk result (GoesOn count modulator.old (F.Feed.lists feed.old) modulator.new (F.Feed.lists feed.new)) }
 {
     for done in 0..count {
         let number = done + 1;
@@ -172,7 +175,8 @@ pub fn transmit<F: Feed, O: Outlet>(
     feed: &mut F,
     outlet: &mut O,
 ) -> anyhow::Result<()>
-    ensures { OnOk result ((frames : List (List ℕ)) × Transmitted plan.now.fields installs.now count (F.Feed.lists feed.old) (F.Feed.lists feed.new) frames × Course O.Outlet.sends O.Outlet.hears outlet.old outlet.new frames) }
+    ensures run { OnOk result ((frames : List (List ℕ)) × Transmitted plan.now.fields installs.now count (F.Feed.lists feed.old) (F.Feed.lists feed.new) frames × Course O.Outlet.sends O.Outlet.hears outlet.old outlet.new frames) }
+    ensures whole { OnOk result (WholeRun count (F.Feed.lists feed.old) (F.Feed.lists feed.new)) }
 {
     let before = waiting(feed);
     let mut modulator = load(plan);

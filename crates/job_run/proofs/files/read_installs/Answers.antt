@@ -1,4 +1,4 @@
-use Rattle.std.proofs.Common.{◌≡◌, ℕ, ◌+◌, ◌<◌, get_or, vec_items, vec_len, sym, refl, ap, ◌∙◌, arith, below_more}
+use Rattle.std.proofs.Common.{◌≡◌, ℕ, ◌+◌, get_or, vec_items, sym, refl, ap, ◌∙◌, arith, below_more}
 use Rattle.std.proofs.lemmas.List.{get_or_default}
 use Rattle.modulate_job.specs.declared.changes.Change.{Change}
 use Rattle.transmission.specs.declared.install.Install.{Install}
@@ -9,7 +9,7 @@ loop-change-preserved c =
     let changes = c.args.changes.now in
     let index = c.loop-change.change-index in
     let after = c.push.new.self in
-    let put = c.in-ok-push.ensures in
+    let put = c.in_ok-push.ensures in
     let P : ℕ → Type 0 = λ k. (no_change : Change) (none : Install) → (get_or (vec_items after) k none).at ≡ (get_or changes k no_change).at in (
       put.len ∙ ap (λ (n : ℕ). n + 1) c.loop-change.invariant.0,
       λ k no_change none below.

@@ -1,4 +1,4 @@
-use Rattle.std.proofs.Common.{◌≡◌, ℕ, ◌+◌, ◌-◌, ◌*◌, ◌<◌, Bool, true, cond, not, List, [], map, length, get_or, is_ok, vec_items, vec_len, string_bytes, sym, ap, ◌∙◌, subst, arith, below_more}
+use Rattle.std.proofs.Common.{◌≡◌, ℕ, ◌+◌, ◌-◌, ◌*◌, Bool, true, cond, not, List, [], map, length, get_or, is_ok, vec_items, vec_len, string_bytes, sym, ap, ◌∙◌, subst, arith, below_more}
 use Rattle.std.proofs.lemmas.List.{length-map}
 use Rattle.modulate_job.specs.Jobs.{AsksChange}
 use Rattle.modulate_job.specs.declared.changes.Change.{Change}

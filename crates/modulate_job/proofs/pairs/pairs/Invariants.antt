@@ -1,4 +1,4 @@
-use Rattle.std.proofs.Common.{◌≡◌, ℕ, ◌+◌, ◌*◌, ◌<◌, List, [], map, get_or, vec_items, vec_len, string_bytes}
+use Rattle.std.proofs.Common.{◌≡◌, ℕ, ◌+◌, ◌*◌, ◌<◌, [], map, get_or, vec_items, vec_len, string_bytes}
 use Rattle.modulate_job.specs.Jobs.{AsksChange}
 use Rattle.modulate_job.specs.declared.changes.Change.{Change}
 use Rattle.modulate_job.proofs.pairs.pairs.Given as goal

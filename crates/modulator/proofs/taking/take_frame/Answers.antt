@@ -1,12 +1,12 @@
-use Rattle.std.proofs.Common.{◌≡◌, ℕ, ◌+◌, ◌-◌, ◌*◌, ◌≤◌, List, length, sym, ap, ◌∙◌, subst, arith}
+use Rattle.std.proofs.Common.{◌≡◌, ℕ, ◌+◌, ◌-◌, ◌*◌, sym, ap, subst, arith}
 use borrow.Rule.Slice.PartMut.{put_mid}
 use Rattle.super_frame.proofs.Finished.{number_below}
 use Rattle.modulator.specs.Progress.{TakenUpTo}
 use Rattle.modulator.proofs.Advancing.{taken_more, taken_frame}
 use Rattle.modulator.proofs.taking.take_frame.Goals as goal
 
-pub slice-bounds-take-slot-end : goal.slice-bounds-take-slot-end
-slice-bounds-take-slot-end g c =
+pub slice_bounds-take_slot-end : goal.slice_bounds-take_slot-end
+slice_bounds-take_slot-end g c =
     omega (arith, number_below c.slots-slots.result c.args.frame c.loop-slot.slot c.requires.1 c.loop-slot-test.true, c.slots-slots.ensures.value, c.requires.0)
 
 pub loop-slot-preserved : goal.loop-slot-preserved
@@ -19,10 +19,10 @@ loop-slot-preserved g c = λ start begun.
     let size : at + 188 - at ≡ 188 = omega arith in
     let place : at ≡ 188 * (f * p.slots + s) = ap (λ (n : ℕ). 188 * (f * n + s)) slots in
     let below = number_below c.slots-slots.result f s c.requires.1 c.loop-slot-test.true in
-    subst (λ (k : ℕ). TakenUpTo p start f (s + 1) (g.F.Feed.lists c.take-slot.new.feed) (put_mid at k c.loop-slot.packets c.take-slot.new.packet))
+    subst (λ (k : ℕ). TakenUpTo p start f (s + 1) (g.F.Feed.lists c.take_slot.new.feed) (put_mid at k c.loop-slot.packets c.take_slot.new.packet))
     (sym size)
-    (taken_more p start f s (g.F.Feed.lists c.loop-slot.feed) c.loop-slot.packets (c.loop-slot.invariant start begun) c.take-slot.new.packet
-    (g.F.Feed.lists c.take-slot.new.feed) at place (omega arith) (omega (arith, below, c.requires.0)) (omega arith) c.take-slot.ensures)
+    (taken_more p start f s (g.F.Feed.lists c.loop-slot.feed) c.loop-slot.packets (c.loop-slot.invariant start begun) c.take_slot.new.packet
+    (g.F.Feed.lists c.take_slot.new.feed) at place (omega arith) (omega (arith, below, c.requires.0)) (omega arith) c.take_slot.ensures)
 
 pub returns : goal.returns
 returns g c = λ start begun.

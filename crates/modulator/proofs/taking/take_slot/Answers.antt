@@ -5,8 +5,8 @@ use Rattle.modulator.proofs.taking.take_slot.Goals as goal
 pub returns-in-Active : goal.returns-in-Active
 returns-in-Active g c =
     next_active c.args.plan.now.fields c.args.slot c.in-Some.told c.in-Some.ensures.2 (g.F.Feed.lists c.args.feed.now)
-    c.copy-from-slice.new.self (g.F.Feed.lists c.next-packet.new.feed) c.in-Active.is
-    (c.copy-from-slice.ensures.after ∙ c.next-packet.ensures.packet) c.next-packet.ensures.rest
+    c.copy_from_slice.new.self (g.F.Feed.lists c.next_packet.new.feed) c.in-Active.is
+    (c.copy_from_slice.ensures.after ∙ c.next_packet.ensures.packet) c.next_packet.ensures.rest
 
 pub returns-in-Dummy : goal.returns-in-Dummy
 returns-in-Dummy g c =

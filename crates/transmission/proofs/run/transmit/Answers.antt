@@ -1,4 +1,4 @@
-use Rattle.transmission.proofs.Reaching.{made_on, begin, whole}
+use Rattle.transmission.proofs.Reaching.{made_on, begin, whole, lossless_run}
 use Rattle.transmission.proofs.run.transmit.Goals as goal
 
 pub returns : goal.returns
@@ -7,9 +7,13 @@ returns g c =
     let installs = c.args.installs.now in
     let count = c.args.count in
     let m = c.load-modulator.result in
+    let last = c.send_all.new.modulator in
     let before = g.F.Feed.lists c.args.feed.now in
-    let after = g.F.Feed.lists c.send-all.new.feed in
-    let run = c.in-ok-send-all.ensures p before (begin p installs m before c.load-modulator.ensures.state (c.load-modulator.ensures.run before)) in
-    made_on c.tell-totals.result
-    (λ hears. (run.0, whole p installs count c.send-all.new.modulator before after run.0 run.1, hears c.args.outlet.now run.0 run.2))
-    c.tell-totals.ensures
+    let after = g.F.Feed.lists c.send_all.new.feed in
+    let start = begin p installs m before c.load-modulator.ensures.state (c.load-modulator.ensures.run before) in
+    let run = c.in_ok-send_all.ensures.reached p before start in
+    let all = whole p installs count last before after run.0 run.1 in
+    record {
+      run = made_on c.tell_totals.result (λ hears. (run.0, all, hears c.args.outlet.now run.0 run.2)) c.tell_totals.ensures;
+      whole = made_on c.tell_totals.result (λ hears. lossless_run p installs count before after run.0 all) c.tell_totals.ensures;
+    }

@@ -1,5 +1,5 @@
-use Rattle.std.proofs.Common.{◌≡◌, true, false, cond, not, map, take, vec_items, string_bytes, fold, filter}
-use Rattle.modulate_job.specs.Flags.{is_flag, Sorted}
+use Rattle.std.proofs.Common.{map, take, vec_items, string_bytes}
+use Rattle.modulate_job.specs.Flags.{Sorted}
 use Rattle.modulate_job.proofs.words.Words.sorted.Given as goal
 
 abbrev pub invariant-loop-word : goal.invariant-loop-word

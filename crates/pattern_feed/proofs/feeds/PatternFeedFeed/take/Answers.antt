@@ -28,10 +28,12 @@ bounds-self-index-2 c = (some_waits c.args.self.now c.args.stream (omega arith))
 
 pub invariant_of-self : goal.invariant_of-self
 invariant_of-self c =
-    let some = some_waits c.args.self.now c.args.stream (omega arith) in (
-      (simp length-set c.args.self.now.shaped.0, c.args.self.now.shaped.1),
-      (still_within c.args.self.now c.args.stream some.within some.below, (c.args.self.now.short, tt)),
-    )
+    let some = some_waits c.args.self.now c.args.stream (omega arith) in
+    record {
+      shaped = (simp length-set c.args.self.now.shaped.0, c.args.self.now.shaped.1);
+      within = still_within c.args.self.now c.args.stream some.within some.below;
+      short = c.args.self.now.short;
+    }
 
 pub returns : goal.returns
 returns c =

@@ -31,23 +31,15 @@ bounds-self-index-4 c = some_waits c.args.self.now c.args.stream (omega arith)
 pub invariant_of-self : goal.invariant_of-self
 invariant_of-self c =
     let stream = some_waits c.args.self.now c.args.stream (omega arith) in
-    let f = c.args.self.now in (
-      (simp length-set f.shaped.0, simp length-set f.shaped.1),
-      (
-        f.bytes,
-        (
-          f.short,
-          (
-            f.sound,
-            (
-              still_counted f.file.now f.cursors c.args.stream c.in-Some.found (omega arith) c.in-Some.ensures.1
-                  f.left (omega arith) f.counted,
-              tt,
-            ),
-          ),
-        ),
-      ),
-    )
+    let f = c.args.self.now in
+    record {
+      shaped = (simp length-set f.shaped.0, simp length-set f.shaped.1);
+      bytes = f.bytes;
+      short = f.short;
+      sound = f.sound;
+      counted = still_counted f.file.now f.cursors c.args.stream c.in-Some.found (omega arith) c.in-Some.ensures.1
+          f.left (omega arith) f.counted;
+    }
 
 pub returns : goal.returns
 unfolding packet_at

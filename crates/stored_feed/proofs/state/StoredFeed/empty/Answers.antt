@@ -10,19 +10,14 @@ none : (r first : ℕ) → packets_from [] r first ≡ []
 none r first = from_end [] r first (omega arith)
 
 pub invariant_of-result : goal.invariant_of-result
-invariant_of-result c = (
-  (refl, refl),
-  (
-    (λ k. omega arith),
-    (
-      omega arith,
-      (
-        (λ i below. absurd (omega arith)),
-        ((λ r. zeros_at 8 r ∙ sym (ap (λ (ps : List Packet). length ps) (none r (get_or (replicate 8 0) r 0)))), tt),
-      ),
-    ),
-  ),
-)
+invariant_of-result c =
+    record {
+      shaped = (refl, refl);
+      bytes = λ k. omega arith;
+      short = omega arith;
+      sound = λ i below. absurd (omega arith);
+      counted = λ r. zeros_at 8 r ∙ sym (ap (λ (ps : List Packet). length ps) (none r (get_or (replicate 8 0) r 0)));
+    }
 
 pub returns : goal.returns
 returns c r = none r (get_or (replicate 8 0) r 0)

@@ -6,16 +6,11 @@ use Rattle.stored_feed.proofs.state.StoredFeed.open.Goals as goal
 
 pub invariant_of-self : goal.invariant_of-self
 invariant_of-self c =
-    let file = c.args.file.now in (
-      (refl, c.count.ensures.streams),
-      (
-        (λ k. omega (arith, c.type_inv.file k)),
-        (
-          (c.in_ok-check.ensures Length).1,
-          (
-            c.in_ok-check.ensures Record,
-            ((λ r. c.count.ensures.counted r ∙ ap (λ (n : ℕ). length (packets_from file r n)) (sym (zeros_at 8 r))), tt),
-          ),
-        ),
-      ),
-    )
+    let file = c.args.file.now in
+    record {
+      shaped = (refl, c.count.ensures.streams);
+      bytes = λ k. omega (arith, c.type_inv.file k);
+      short = (c.in_ok-check.ensures Length).1;
+      sound = c.in_ok-check.ensures Record;
+      counted = λ r. c.count.ensures.counted r ∙ ap (λ (n : ℕ). length (packets_from file r n)) (sym (zeros_at 8 r));
+    }
