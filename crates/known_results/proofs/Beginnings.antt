@@ -1,17 +1,16 @@
 -- How the TMCC data and a super-frame of that plan begin. Assumes nothing.
-use Rattle.std.proofs.Common.{◌≡◌, ℕ, zero, suc, ◌+◌, ◌-◌, ◌*◌, ◌<◌, ◌≤◌, List, [], ◌∷◌, ◌++◌, length, get_or, take, drop, sym, refl, ap, ◌∙◌, subst, inl, inr, arith}
+use Rattle.std.proofs.Common.{◌≡◌, ℕ, zero, suc, ◌+◌, ◌*◌, ◌<◌, ◌≤◌, List, [], ◌∷◌, ◌++◌, length, get_or, take, sym, refl, ap, ◌∙◌, subst, inl, inr, arith}
 use lib.Bits.{bit_xor}
 use Rattle.dispersal.specs.Stages.{sequence, bits, state}
-use Rattle.frame_layout.specs.Layout.{SuperFrame, byte_at, frame_byte, head_byte, tmcc_byte}
+use Rattle.frame_layout.specs.Layout.{byte_at, frame_byte, head_byte, tmcc_byte}
 use Rattle.slot_plan.specs.declared.fields.Fields.{Fields}
 use Rattle.plan_formats.specs.Bits.{Field, front, joined, width, Holds}
 use Rattle.plan_formats.specs.Body.{body, lines, numbers}
-use Rattle.plan_formats.specs.Formats.{Bytes, TmccData, tmcc_fields, tmcc_widths}
+use Rattle.plan_formats.specs.Formats.{Bytes, tmcc_fields}
 use Rattle.plan_formats.proofs.Heads.{front_byte, front_none}
 use Rattle.plan_formats.proofs.Prefixes.{holds_front}
 use Rattle.std.proofs.lemmas.List.{get_or-take, get_or_past, length-take}
 use Rattle.std.proofs.lemmas.Bool.{cases_lt}
-use Rattle.tmcc_word.specs.Words.{IsTmccWord}
 use Rattle.known_results.specs.Known.{FortySixAndTwo, DataBegin, SuperFrameBegins, SequenceBegins}
 
 -- the first 48 bits
@@ -95,10 +94,8 @@ super_frame_begins f tmcc words stream p zero-stream t s =
     let m = marks tmcc words in
     let q = sequence_begins in
     let at : (i : ℕ) → i < 48 → get_or (take 48 tmcc) i 0 ≡ get_or tmcc i 0 = λ i h. get_or-take 48 tmcc i 0 h in
-    let front_bytes : Bytes (take 48 tmcc) = taken_bytes tmcc t.coded.bytes in
-    let states : TmccData (take 48 tmcc) 48 0 f =
-    subst (λ (n : ℕ). TmccData (take 48 tmcc) n 0 f) p.slots (subst (λ (xs : List ℕ). TmccData xs f.slots 0 f) (sym t.coded.front) t.states) in
-    let d = data_begin f (take 48 tmcc) p zero-stream front_bytes states in (
+    let front_bytes : Bytes (take 48 tmcc) = taken_bytes tmcc t.bytes in
+    let d = data_begin f (take 48 tmcc) p zero-stream front_bytes t.states in (
       s.bytes 0 (omega arith) ∙ m.0,
       s.bytes 1 (omega arith) ∙ m.1,
       s.bytes 2 (omega arith) ∙ head_at tmcc words 0 0x03 (omega arith) (sym (at 0 (omega arith)) ∙ d.0) ∙ ap (λ (y : ℕ). bit_xor 0x03 y) q.0,

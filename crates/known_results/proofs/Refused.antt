@@ -1,6 +1,6 @@
 -- Two plans that are refused. Assumes nothing.
-use Rattle.std.proofs.Common.{◌≡◌, ℕ, zero, suc, ◌+◌, ◌%◌, ◌<◌, ◌≤◌, ◌≢◌, get_or, sym, refl, ap, ◌∙◌, arith}
-use Rattle.slot_plan.specs.Faults.{First, rank}
+use Rattle.std.proofs.Common.{◌≡◌, ℕ, zero, suc, ◌%◌, ◌<◌, ◌≤◌, ◌≢◌, get_or, sym, refl, ap, ◌∙◌, arith}
+use Rattle.slot_plan.specs.Faults.{rank}
 use Rattle.slot_plan.specs.Modes.{unit}
 use Rattle.slot_plan.specs.Rules.{Passes, unused}
 use Rattle.slot_plan.specs.declared.fault.PlanFault.{PlanFault}

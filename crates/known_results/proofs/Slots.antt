@@ -1,5 +1,5 @@
 -- The slots of the plan of 46 and two. Assumes nothing.
-use Rattle.std.proofs.Common.{◌≡◌, ℕ, zero, suc, ◌+◌, ◌-◌, ◌%◌, ◌<◌, ◌≤◌, Bool, true, false, ltb, List, [], ◌∷◌, sym, refl, ap, ◌∙◌, arith}
+use Rattle.std.proofs.Common.{◌≡◌, ℕ, ◌-◌, ◌%◌, Bool, true, false, ltb, List, [], ◌∷◌, refl, ap, ◌∙◌, arith}
 use Rattle.slot_plan.specs.Layout.{active, mode_word, word_among, place_among}
 use Rattle.slot_plan.specs.Modes.{unit, active_in_unit}
 use Rattle.slot_plan.specs.declared.fields.Fields.{Fields}

@@ -10,7 +10,7 @@ use Rattle.outer_code.specs.Kinds.{Sync, Any}
 use Rattle.outer_code.specs.Results.{AtSix}
 use Rattle.outer_code.specs.declared.fault.CodeFault.{CodeFault}
 use Rattle.plan_formats.specs.Formats.{Bytes, TmccData}
-use Rattle.tmcc_word.specs.Words.{IsTmccWord}
+use Rattle.tmcc_word.specs.Words.{IsTmccCodeword}
 use Rattle.slot_plan.specs.Faults.{First, number, rank}
 use Rattle.slot_plan.specs.Layout.{active}
 use Rattle.slot_plan.specs.Rules.{Passes}
@@ -75,7 +75,7 @@ DataBegin =
 abbrev pub SuperFrameBegins : Type 0
 SuperFrameBegins =
     (f : Fields) (tmcc : List ℕ) (words : ℕ → ℕ → List ℕ) (stream : List ℕ) →
-    FortySixAndTwo f → slice_index f.streams 0 ≡ 0 → IsTmccWord tmcc 0 f → SuperFrame 48 tmcc words stream →
+    FortySixAndTwo f → slice_index f.streams 0 ≡ 0 → IsTmccCodeword tmcc 48 0 f → SuperFrame 48 tmcc words stream →
     (slice_index stream 0 ≡ 0x1B) × (slice_index stream 1 ≡ 0x95) × (slice_index stream 2 ≡ 0x00) × (slice_index stream 3 ≡ 0x2A) × (slice_index stream 4 ≡ 0x49)
     × (slice_index stream 5 ≡ 0x4C)
 

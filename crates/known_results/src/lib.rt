@@ -1,4 +1,6 @@
 // Worked results of the rules, as one list that the definitions are held to.
+#![tactic(auto)]
+
 ghost use Rattle.std.specs.Prelude.{◌≡◌};
 ghost use Rattle.known_results.specs.Known.{KnownResults};
 

@@ -1,4 +1,6 @@
 // Turns a slot plan and packets into super-frames on disk.
+#![tactic(auto)]
+
 mod output;
 
 use anyhow::anyhow;

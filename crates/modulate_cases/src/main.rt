@@ -1,4 +1,6 @@
 // Replays stored runs of the modulator, whose outcomes come from outside code, and counts those that agree.
+#![tactic(auto)]
+
 mod replay;
 
 use anyhow::{Context, anyhow};

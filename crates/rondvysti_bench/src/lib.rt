@@ -1,4 +1,6 @@
 // Calls for C that are measured beside other code: the outer code on slot words, and whole super-frames.
+#![tactic(auto)]
+
 mod filling;
 mod frames;
 mod words;

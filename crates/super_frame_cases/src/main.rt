@@ -1,4 +1,6 @@
 // Makes the super-frame of each case on standard input, and prints the case anew with its digests and its ends.
+#![tactic(auto)]
+
 mod hex;
 mod packets;
 

@@ -1,4 +1,6 @@
 // Prints the TMCC of the plan file on standard input.
+#![tactic(auto)]
+
 use plan_formats::{Order, Tmcc, read_plan};
 use std::fmt;
 use std::io::Read;

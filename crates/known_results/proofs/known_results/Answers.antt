@@ -1,4 +1,4 @@
-use Rattle.std.proofs.Common.{◌≡◌, refl, arith}
+use Rattle.std.proofs.Common.{refl, arith}
 use Rattle.field256.specs.Field.{times, twice, bitwise_product, reduced, plus}
 use Rattle.outer_code.specs.Kinds.{Sync, Any}
 use Rattle.outer_code.proofs.Results.{correction}
