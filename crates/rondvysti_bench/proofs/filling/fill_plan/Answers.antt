@@ -4,7 +4,7 @@ use Rattle.rondvysti_bench.proofs.filling.fill_plan.Goals as goal
 
 pub returns-in-Ok-fill : goal.returns-in-Ok-fill
 returns-in-Ok-fill c =
-    let opened = c.in-default.ensures.opened in
+    let opened = c.in_default.ensures.opened in
     let loaded = c.in-Ok-load.ensures.load in
     let filled = c.in-Ok-fill.ensures.fill in
     inl (
