@@ -15,5 +15,5 @@ pub returns : goal.returns
 returns g c =
     finished c.args.plan.now.fields (g.F.Feed.lists c.args.feed.now) (g.F.Feed.lists c.take_packets.new.feed)
     c.take_packets.new.packets c.take_packets.ensures c.args.self.now c.word-tmcc.result c.write.new.out c.requires.kept
-    c.word-tmcc.ensures (done c.args.plan.now.fields c.word-tmcc.result c.take_packets.new.packets c.args.out.now c.write.new.out
+    c.word-tmcc.ensures.word (done c.args.plan.now.fields c.word-tmcc.result c.take_packets.new.packets c.args.out.now c.write.new.out
     c.write.result (omega arith, omega arith) c.write.ensures)
