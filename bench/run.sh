@@ -5,15 +5,15 @@
 #
 #     run.sh [ARCHIVE...]
 #
-# Where no archive is named, `rt lib` makes the library.
+# Where no archive is named, tools/archive.sh makes the library.
 set -eu
 top=$(cd "$(dirname "$0")/.." && pwd)
-if [ $# -eq 0 ]; then
-    (cd "$top/crates/rondvysti_bench" && rt lib)
-    set -- "$top/crates/rondvysti_bench/out/librondvysti_bench.a"
-fi
 scratch=$(mktemp -d)
 trap 'rm -rf "$scratch"' EXIT
+if [ $# -eq 0 ]; then
+    "$top/tools/archive.sh" rondvysti_bench "$scratch"
+    set -- "$scratch/librondvysti_bench.a"
+fi
 
 for name in outer_code super_frame; do
     ${CC:-cc} -std=c11 -O2 -Wall -Wextra -o "$scratch/$name" "$top/bench/$name.c" "$@" -lfec

@@ -4,15 +4,15 @@
 #
 #     run.sh [ARCHIVE...]
 #
-# Where no archive is named, `rt lib` makes the library.
+# Where no archive is named, tools/archive.sh makes the library.
 set -eu
 top=$(cd "$(dirname "$0")/../.." && pwd)
-if [ $# -eq 0 ]; then
-    (cd "$top/crates/rondvysti" && rt lib)
-    set -- "$top/crates/rondvysti/out/librondvysti.a"
-fi
 scratch=$(mktemp -d)
 trap 'rm -rf "$scratch"' EXIT
+if [ $# -eq 0 ]; then
+    "$top/tools/archive.sh" rondvysti "$scratch"
+    set -- "$scratch/librondvysti.a"
+fi
 
 for program in control tmcc_control; do
     ${CC:-cc} -std=c11 -O2 -Wall -Wextra -I"$top/include" -o "$scratch/$program" "$top/examples/c/$program.c" "$@"

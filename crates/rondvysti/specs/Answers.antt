@@ -1,4 +1,4 @@
--- What the C call answers. Assumes nothing.
+-- What the check of a slot plan file answers. Assumes nothing.
 use Rattle.std.specs.Prelude.{◌≡◌, ℕ, ◌⊎◌, List}
 use Rattle.slot_plan.specs.Faults.{First}
 use Rattle.slot_plan.specs.Rules.{Valid}

@@ -1,4 +1,4 @@
-// Rondvysti for C: the calls of the rack's control program.
+// The calls of the rack's control program, on bytes and numbers; `rondvysti_c` exports them to C.
 #![tactic(auto)]
 
 mod plan;

@@ -1,4 +1,4 @@
-// The check of a slot plan file, as a C call.
+// The check of a slot plan file, answered as a number.
 ghost use Rattle.rondvysti.specs.Answers.{Checked};
 
 use plan_formats::read_plan;
@@ -7,8 +7,7 @@ use plan_formats::read_plan;
 const ACCEPTED: u8 = 0;
 
 // Answers 0 for a plan file, or the number of the first check that the file fails.
-#[unsafe(no_mangle)]
-pub extern "C" fn rondvysti_plan_check(file: &[u8]) -> u8
+pub fn rondvysti_plan_check(file: &[u8]) -> u8
     ensures { Checked file.now result }
 {
     match read_plan(file) {

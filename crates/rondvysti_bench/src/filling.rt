@@ -37,8 +37,7 @@ fn fill_plan(plan: &Plan, packets: &[u8], out: &mut [u8]) -> u8
 }
 
 // Fills the first super-frame of a plan file's plan from a packet file. Answers 0, or the number of the refusal.
-#[unsafe(no_mangle)]
-pub extern "C" fn rondvysti_bench_fill(file: &[u8], packets: &[u8], out: &mut [u8]) -> u8
+pub fn rondvysti_bench_fill(file: &[u8], packets: &[u8], out: &mut [u8]) -> u8
     ensures { FilledAs file.now packets.now out.old result out.new }
 {
     match read_plan(file) {

@@ -23,8 +23,7 @@ fn write_plan(plan: &Plan, packets: &[u8], out: &mut [u8]) -> u8
 
 // Writes the super-frame of a plan file's plan with order of change 0, from packets that are joined frame by frame and slot by slot.
 // Answers 0, or the number of the refusal.
-#[unsafe(no_mangle)]
-pub extern "C" fn rondvysti_bench_write(file: &[u8], packets: &[u8], out: &mut [u8]) -> u8
+pub fn rondvysti_bench_write(file: &[u8], packets: &[u8], out: &mut [u8]) -> u8
     ensures { WrittenAs file.now packets.now out.old result out.new }
 {
     match read_plan(file) {
@@ -34,8 +33,7 @@ pub extern "C" fn rondvysti_bench_write(file: &[u8], packets: &[u8], out: &mut [
 }
 
 // Takes the words out of a super-frame of so many slots, uncorrected. Answers 0, or 8 where a length is wrong.
-#[unsafe(no_mangle)]
-pub extern "C" fn rondvysti_bench_read(slots: u8, stream: &[u8], words: &mut [u8]) -> u8
+pub fn rondvysti_bench_read(slots: u8, stream: &[u8], words: &mut [u8]) -> u8
     ensures { ReadAs slots stream.now words.old result words.new }
 {
     let mut tmcc = [0; 64];

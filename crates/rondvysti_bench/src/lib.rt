@@ -1,4 +1,4 @@
-// Calls for C that are measured beside other code: the outer code on slot words, and whole super-frames.
+// Calls that are measured beside other code: the outer code on slot words, and whole super-frames; `rondvysti_bench_c` exports them to C.
 #![tactic(auto)]
 
 mod filling;

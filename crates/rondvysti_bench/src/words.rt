@@ -7,16 +7,14 @@ ghost use Rattle.std.specs.Prelude.{◌≡◌, Result};
 use outer_code::{SlotWord, answer_number, correct, encode};
 
 // Writes the check bytes of a slot word behind its data. Answers 0, or 8 where the length is wrong.
-#[unsafe(no_mangle)]
-pub extern "C" fn rondvysti_bench_encode(word: &mut [u8]) -> u8
+pub fn rondvysti_bench_encode(word: &mut [u8]) -> u8
     ensures { (a : Result (Unit {0}) CodeFault) × (result ≡ answer_number 16 a) × SlotEncoded word.old a word.new }
 {
     answer_number::<SlotWord>(encode::<SlotWord>(word))
 }
 
 // Corrects a slot word. Answers 0, or the refusal's number.
-#[unsafe(no_mangle)]
-pub extern "C" fn rondvysti_bench_correct(word: &mut [u8], bound: u8) -> u8
+pub fn rondvysti_bench_correct(word: &mut [u8], bound: u8) -> u8
     ensures { (a : Result (Unit {0}) CodeFault) × (result ≡ answer_number 16 a) × SlotCorrected bound word.old a word.new }
 {
     answer_number::<SlotWord>(correct::<SlotWord>(word, bound))
