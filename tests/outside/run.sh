@@ -16,6 +16,7 @@ program() {
         return
     fi
     crate=$here/../../crates/$1
+    rm -f "$crate/out/$1"
     # Run once, with whatever arguments and input, it is built.
     (cd "$crate" && rt run < /dev/null > /dev/null 2>&1) || true
     echo "$crate/out/$1"

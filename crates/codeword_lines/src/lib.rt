@@ -5,6 +5,8 @@ mod answer;
 mod hex;
 mod line;
 mod request;
+#[cfg(test)]
+mod tests;
 mod text;
 
 pub use answer::Answer;

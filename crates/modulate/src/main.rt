@@ -14,13 +14,11 @@ const USAGE: &str =
     "usage: modulate [--progress] PLAN PACKETS COUNT OUT [AT PLAN2]...\nPACKETS is a packet file, or pattern: and eight counts with commas between them; PLAN2 is installed before super-frame AT";
 
 fn main(rt: HostRuntime) -> anyhow::Result<()> {
-    match run(&rt) {
-        Ok(()) => Ok(()),
-        Err(error) => {
-            eprintln!(rt; "modulate: {error}\n{USAGE}")?;
-            Err(error)
-        }
+    let result = run(&rt);
+    if result.is_err() {
+        eprintln!(rt; "{USAGE}")?;
     }
+    result
 }
 
 // Makes the run of a job.

@@ -11,13 +11,12 @@ use hex::{Hex, unhex};
 use packets::packets;
 use plan_formats::{Order, Tmcc, read_plan};
 use std::io::{BufRead, BufReader};
-use super_frame::write;
 use tmcc_word::word;
 
 // How many bytes of each end are printed.
 const ENDS: usize = 32;
 
-// The super-frame of a case: a plan file, an order of change and the number of the first packet.
+// The super-frame of a case: a plan file, an order of change and the number of the first packet. Both writers have to make it.
 fn frame_bytes(rt: &HostRuntime, file: &[u8], order: u8, start: u16) -> anyhow::Result<Vec<u8>> {
     let heap = rt.alloc();
     let Ok(plan) = read_plan(file) else {
@@ -29,8 +28,14 @@ fn frame_bytes(rt: &HostRuntime, file: &[u8], order: u8, start: u16) -> anyhow::
     let tmcc = word(&Tmcc { order, plan });
     let carried = packets(heap, &plan, start)?;
     let mut out = vec![in heap; 0; super_frame_size(plan.slots())]?;
-    if write(&plan, &tmcc, carried.as_slice(), out.as_mut_slice()).is_err() {
+    let mut by_parts = vec![in heap; 0; super_frame_size(plan.slots())]?;
+    if super_frame::write(&plan, &tmcc, carried.as_slice(), out.as_mut_slice()).is_err()
+        || frame_writer::write(&plan, &tmcc, carried.as_slice(), by_parts.as_mut_slice()).is_err()
+    {
         return Err(anyhow!("a length that is refused"));
+    }
+    if out.as_slice() != by_parts.as_slice() {
+        return Err(anyhow!("two writers that differ"));
     }
     Ok(out)
 }

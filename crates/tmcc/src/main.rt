@@ -1,11 +1,10 @@
 // Prints the TMCC of the plan file on standard input.
 #![tactic(auto)]
 
-use plan_formats::{Order, Tmcc, read_plan};
+use plan_formats::read_plan;
 use std::fmt;
 use std::io::Read;
-use super_frame::frame_heads;
-use tmcc_word::word;
+use tmcc_report::{first_word, heads};
 
 // How many bytes the TMCC data and a frame's head have.
 const DATA: usize = 48;
@@ -37,13 +36,12 @@ fn run(rt: &HostRuntime) -> anyhow::Result<()> {
             return Ok(());
         }
     };
-    let order = Order::first();
-    let word = word(&Tmcc { order, plan });
+    let word = first_word(&plan);
     let data = Hex(&word[0..DATA]);
     println!(rt; "D {data}")?;
     let whole = Hex(&word);
     println!(rt; "W {whole}")?;
-    let heads = frame_heads(&word);
+    let heads = heads(&word);
     for (frame, head) in heads.chunks(HEAD).enumerate() {
         let number = frame + 1;
         let head = Hex(head);
