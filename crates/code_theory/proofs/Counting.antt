@@ -1,36 +1,26 @@
 -- The distance of two words, counted place by place.
 -- Assumes nothing.
-use Rattle.std.proofs.Common.{◌≡◌, ℕ, zero, suc, ◌+◌, ◌<◌, min, cond, eqb, List, [], ◌∷◌, length, get_or, take, sym, refl, ◌∙◌, add_assoc, arith}
+use Rattle.std.proofs.Common.{◌≡◌, ℕ, ◌+◌, Bool, true, false, cond, eqb, not, List, [], ◌∷◌, length, sym, refl, ap, ◌∙◌, arith}
+use Rattle.std.specs.List.{filter, zip}
 use Rattle.code_theory.specs.Codeword.{distance}
 use Rattle.code_theory.proofs.Differences.{distance_nil, distance_cons}
 
-pub distance_none : (a b : List ℕ) → distance (take 0 a) (take 0 b) ≡ 0
-distance_none a b = distance_nil (take 0 b)
+-- whether two bytes differ
+abbrev pub differ : ℕ × ℕ → Bool
+differ p = not (eqb p.0 p.1)
 
-pub distance_more : (a b : List ℕ) (i : ℕ) → i < length a → i < length b
-    → distance (take (suc i) a) (take (suc i) b) ≡ distance (take i a) (take i b) + cond (eqb (get_or a i 0) (get_or b i 0)) 0 1
-distance_more [] b i h k = absurd (omega arith)
-distance_more (x ∷ a) [] i h k = absurd (omega arith)
-distance_more (x ∷ a) (y ∷ b) zero h k =
-    distance_cons x y [] [] ∙ rw (distance_nil []) (omega arith)
-distance_more (x ∷ a) (y ∷ b) (suc i) h k =
-    rw (
-      distance_cons x y (take (suc i) a) (take (suc i) b),
-      distance_cons x y (take i a) (take i b),
-      distance_more a b i (omega arith) (omega arith),
-    )
-    (sym (add_assoc _ _ _))
-
-distance_nil_right : (a : List ℕ) → distance a [] ≡ 0
+nil_right : (a : List ℕ) → distance a [] ≡ 0
 unfolding distance
-distance_nil_right [] = refl
-distance_nil_right (x ∷ a) = refl
+nil_right [] = refl
+nil_right (x ∷ a) = refl
 
-pub distance_all : (a b : List ℕ) (m : ℕ) → m ≡ min (length a) (length b) → distance (take m a) (take m b) ≡ distance a b
-distance_all [] b zero h = distance_nil [] ∙ sym (distance_nil b)
-distance_all [] b (suc m) h = absurd (omega arith)
-distance_all (x ∷ a) [] zero h = distance_nil [] ∙ sym (distance_nil_right (x ∷ a))
-distance_all (x ∷ a) [] (suc m) h = absurd (omega arith)
-distance_all (x ∷ a) (y ∷ b) zero h = absurd (omega arith)
-distance_all (x ∷ a) (y ∷ b) (suc m) h =
-    rw (distance_cons x y (take m a) (take m b), distance_cons x y a b, distance_all a b m (omega arith))
+one_more : {X : Type 0} (t : Bool) (x : X) (xs : List X) → length (cond (not t) (x ∷ xs) xs) ≡ cond t 0 1 + length xs
+one_more true x xs = omega arith
+one_more false x xs = omega arith
+
+pub distance_counted : (a b : List ℕ) → length (filter differ (zip a b)) ≡ distance a b
+distance_counted [] b = sym (distance_nil b)
+distance_counted (x ∷ a) [] = sym (nil_right (x ∷ a))
+distance_counted (x ∷ a) (y ∷ b) =
+    one_more (eqb x y) (x, y) (filter differ (zip a b)) ∙ ap (λ (n : ℕ). cond (eqb x y) 0 1 + n) (distance_counted a b)
+    ∙ sym (distance_cons x y a b)

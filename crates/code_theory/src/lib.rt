@@ -31,12 +31,5 @@ pub fn largest_bound() -> u8
 pub fn differing(a: &[u8], b: &[u8]) -> usize
     ensures { result ≡ distance a.now b.now }
 {
-    let len = if a.len() < b.len() { a.len() } else { b.len() };
-    let mut count = 0;
-    for i in 0..len {
-        if a[i] != b[i] {
-            count += 1;
-        }
-    }
-    count
+    a.iter().zip(b).filter(|(x, y)| x != y).count()
 }

@@ -9,7 +9,7 @@ fn main(rt: HostRuntime) -> io::Result<()> {
     for line in BufReader::new(rt.alloc(), rt.stdin())?.split(rt.alloc(), b'\n') {
         let line = line?;
         let answer = answer_line(rt.alloc(), line.as_slice())?;
-        rt.println(answer.text(rt.alloc())?)?;
+        rt.println(answer)?;
     }
     Ok(())
 }

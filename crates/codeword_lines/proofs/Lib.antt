@@ -1,4 +1,3 @@
 pub mod Digits
 pub mod Bounds
 pub mod Lines
-pub mod Hexing

@@ -5,7 +5,8 @@ use Rattle.codeword_lines.specs.declared.request.Kind.{Kind}
 use Rattle.codeword_lines.specs.declared.request.Kind.TheVariants.{Slot, Tmcc}
 use Rattle.codeword_lines.specs.declared.request.Task.{Task}
 use Rattle.codeword_lines.specs.declared.request.Task.TheVariants.{Encode, Correct}
-use Rattle.codeword_lines.specs.Hex.{Hex, Decimal, DecimalDigit}
+use Rattle.codeword_lines.specs.Decimals.{Decimal, DecimalDigit}
+use Rattle.hexadecimal.specs.Hex.{Hex}
 use Rattle.codeword_lines.specs.Requests.{Asks, name}
 
 -- no request at all

@@ -1,4 +1,4 @@
-pub mod Hex
+pub mod Decimals
 pub mod Requests
 pub mod Answers
 pub mod Texts

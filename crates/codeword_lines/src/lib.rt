@@ -2,12 +2,10 @@
 #![tactic(auto)]
 
 mod answer;
-mod hex;
 mod line;
 mod request;
 #[cfg(test)]
 mod tests;
-mod text;
 
 pub use answer::Answer;
 pub use line::answer_line;

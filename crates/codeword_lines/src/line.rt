@@ -1,56 +1,56 @@
 // From a line to its answer.
-ghost use Rattle.codeword_lines.specs.Answers.{Answered, CorrectedAs, Done, EncodedAs};
-ghost use Rattle.codeword_lines.specs.Hex.{Hex, unhexed};
+ghost use Rattle.codeword_lines.specs.Answers.{Answered, CorrectedAs, DoneAs, EncodedAs, Outcome};
+ghost use Rattle.hexadecimal.specs.Hex.{unhexed};
 ghost use Rattle.std.specs.Prelude.{IfOk};
 
 use crate::answer::Answer;
-use crate::hex::unhex;
 use crate::request::{Kind, Request, Task, parse};
+use hexadecimal::HexText;
 use outer_code::{CodeFault, SlotWord, TmccWord, WordKind, correct, encode};
 use std::alloc::{AllocError, Global};
 
+// A word that was coded or corrected, or why it was not.
+type Outcome = Result<Vec<u8>, CodeFault>;
+
 // Codes the bytes that a text writes.
-fn encoded<K: WordKind>(heap: Global, text: &[u8]) -> Result<Answer, AllocError>
-    requires { Hex text.now }
-    ensures { IfOk result (EncodedAs K.WordKind.size K.WordKind.message (unhexed text.now)) }
+fn encoded<K: WordKind>(heap: Global, text: HexText) -> Result<Outcome, AllocError>
+    ensures { IfOk result (EncodedAs K.LENGTH K.DATA_LENGTH (unhexed text.entry.digits.now)) }
 {
-    let data = K::data_size();
-    if text.len() != 2 * data {
-        return Ok(Answer::Refusal(CodeFault::Length.number::<K>()));
+    if text.byte_count() != K::DATA_LENGTH {
+        return Ok(Err(CodeFault::Length));
     }
-    let mut word = vec![in heap; 0u8; K::word_size()]?;
-    let bytes = word.as_mut_slice();
-    unhex(text, &mut bytes[0..data]);
-    match encode::<K>(bytes) {
-        Ok(()) => Ok(Answer::Word(word)),
-        Err(fault) => Ok(Answer::Refusal(fault.number::<K>())),
-    }
+    let mut word = text.to_vec(heap)?;
+    word.resize(K::LENGTH, 0)?;
+    let answer = encode::<K>(word.as_mut_slice());
+    Ok(answer.and(Ok(word)))
 }
 
 // Corrects the word that a text writes.
-fn corrected<K: WordKind>(heap: Global, bound: u8, text: &[u8]) -> Result<Answer, AllocError>
-    requires { Hex text.now }
-    ensures { IfOk result (CorrectedAs K.WordKind.size K.WordKind.permitted K.WordKind.refused bound (unhexed text.now)) }
+fn corrected<K: WordKind>(heap: Global, bound: u8, text: HexText) -> Result<Outcome, AllocError>
+    ensures { IfOk result (CorrectedAs K.LENGTH K.permitted bound (unhexed text.entry.digits.now)) }
 {
-    let mut word = vec![in heap; 0u8; text.len() / 2]?;
-    let bytes = word.as_mut_slice();
-    unhex(text, bytes);
-    match correct::<K>(bytes, bound) {
-        Ok(()) => Ok(Answer::Word(word)),
-        Err(fault) => Ok(Answer::Refusal(fault.number::<K>())),
+    let mut word = text.to_vec(heap)?;
+    let answer = correct::<K>(word.as_mut_slice(), bound);
+    Ok(answer.and(Ok(word)))
+}
+
+// Does a task at a kind of word.
+fn done<K: WordKind>(heap: Global, task: Task, text: HexText) -> Result<Outcome, AllocError>
+    ensures { IfOk result (DoneAs K.LENGTH K.DATA_LENGTH K.permitted task (unhexed text.entry.digits.now)) }
+{
+    match task {
+        Task::Encode => encoded::<K>(heap, text),
+        Task::Correct(bound) => corrected::<K>(heap, bound, text),
     }
 }
 
 // Does what a request asks for.
-fn done(heap: Global, kind: Kind, task: Task, text: &[u8]) -> Result<Answer, AllocError>
-    requires { Hex text.now }
-    ensures { IfOk result (Done kind task (unhexed text.now)) }
+fn outcome(heap: Global, request: Request) -> Result<Outcome, AllocError>
+    ensures { IfOk result (Outcome request.entry.kind request.entry.task (unhexed request.entry.text.digits.now)) }
 {
-    match (kind, task) {
-        (Kind::Slot, Task::Encode) => encoded::<SlotWord>(heap, text),
-        (Kind::Slot, Task::Correct(bound)) => corrected::<SlotWord>(heap, bound, text),
-        (Kind::Tmcc, Task::Encode) => encoded::<TmccWord>(heap, text),
-        (Kind::Tmcc, Task::Correct(bound)) => corrected::<TmccWord>(heap, bound, text),
+    match request.kind {
+        Kind::Slot => done::<SlotWord>(heap, request.task, request.text),
+        Kind::Tmcc => done::<TmccWord>(heap, request.task, request.text),
     }
 }
 
@@ -59,7 +59,13 @@ pub fn answer_line(heap: Global, line: &[u8]) -> Result<Answer, AllocError>
     ensures { IfOk result (Answered line.now) }
 {
     match parse(line) {
-        Some(Request { kind, task, text }) => done(heap, kind, task, text),
+        Some(request) => Ok(match outcome(heap, request)? {
+            Ok(word) => Answer::Word(word),
+            Err(fault) => Answer::Refusal {
+                kind: request.kind,
+                fault,
+            },
+        }),
         None => Ok(Answer::Unknown),
     }
 }

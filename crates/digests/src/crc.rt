@@ -24,20 +24,16 @@ fn shift(register: u32) -> u32
 fn after(register: u32, byte: u8) -> u32
     ensures { result ≡ crc_step register byte }
 {
-    let mut register = register ^ u32::from(byte);
-    for _step in 0..BITS {
-        register = shift(register);
-    }
-    register
+    (0..BITS).fold(register ^ u32::from(byte), |register, _| shift(register))
 }
 
 // The CRC-32 of some bytes.
+#[tactic(auto, unfolding(crate::specs::Digests::crc))]
 pub fn crc32(bytes: &[u8]) -> u32
     ensures { result ≡ crc bytes.now }
 {
-    let mut register = u32::MAX;
-    for byte in bytes {
-        register = after(register, *byte);
-    }
+    let register = bytes
+        .iter()
+        .fold(u32::MAX, |register, byte| after(register, *byte));
     register ^ u32::MAX
 }

@@ -7,12 +7,11 @@ const BASIS: u64 = 0xcbf2_9ce4_8422_2325;
 const PRIME: u64 = 0x100_0000_01b3;
 
 // The hash of some bytes.
+#[tactic(auto, unfolding(crate::specs::Digests::fnv))]
 pub fn fnv1a(bytes: &[u8]) -> u64
     ensures { result ≡ fnv bytes.now }
 {
-    let mut hash = BASIS;
-    for byte in bytes {
-        hash = (hash ^ u64::from(*byte)).wrapping_mul(PRIME);
-    }
-    hash
+    bytes.iter().fold(BASIS, |hash, byte| {
+        (hash ^ u64::from(*byte)).wrapping_mul(PRIME)
+    })
 }

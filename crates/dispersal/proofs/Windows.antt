@@ -40,15 +40,21 @@ low t a b = ap (λ (x : ℕ). x % 2 ^ b) (bits_join t a b) ∙ mod_low (bits t a
 pub between : (t a b c : ℕ) → bits t (a + b + c) / 2 ^ c % 2 ^ b ≡ bits (t + a) b
 between t a b c = ap (λ (x : ℕ). x % 2 ^ b) (high t (a + b) c) ∙ low t a b
 
--- a window of which the first k bits go, and behind which as many enter; i bits stand behind its first k bits and a byte
+-- what enters behind a window of which the first k bits go; i bits stand behind its first k bits and a byte
+abbrev pub entering : ℕ → ℕ → ℕ → ℕ
+entering k i w = bit_xor (w / 2 ^ (i + 8)) (w / 2 ^ i % 2 ^ k)
+
+-- the window then
 abbrev pub passed : ℕ → ℕ → ℕ → ℕ
-passed k i w = w % 2 ^ (i + 8) * 2 ^ k + bit_xor (w / 2 ^ (i + 8)) (w / 2 ^ i % 2 ^ k)
+passed k i w = w % 2 ^ (i + 8) * 2 ^ k + entering k i w
+
+pub entering_below : (k i w : ℕ) → w < 2 ^ (k + (i + 8)) → entering k i w < 2 ^ k
+entering_below k i w h =
+    xor_lt k (w / 2 ^ (i + 8)) (w / 2 ^ i % 2 ^ k) (shr_below w k (i + 8) h) (mod_below (w / 2 ^ i) (2 ^ k) (pow_pos k))
 
 pub passed_below : (k i w : ℕ) → w < 2 ^ (k + (i + 8)) → passed k i w < 2 ^ (i + 8 + k)
 passed_below k i w h =
-    let entering = bit_xor (w / 2 ^ (i + 8)) (w / 2 ^ i % 2 ^ k) in
-    let few : entering < 2 ^ k = xor_lt k (w / 2 ^ (i + 8)) (w / 2 ^ i % 2 ^ k) (shr_below w k (i + 8) h) (mod_below (w / 2 ^ i) (2 ^ k) (pow_pos k)) in
-    let room = mul-add-lt (w % 2 ^ (i + 8)) (2 ^ k) entering (2 ^ (i + 8)) (mod_below w (2 ^ (i + 8)) (pow_pos (i + 8))) few in
+    let room = mul-add-lt (w % 2 ^ (i + 8)) (2 ^ k) (entering k i w) (2 ^ (i + 8)) (mod_below w (2 ^ (i + 8)) (pow_pos (i + 8))) (entering_below k i w h) in
     rw (pow-add 2 (i + 8) k, native.Mathlib.Nat.mul_comm (2 ^ (i + 8)) (2 ^ k)) room
 
 module _ (t k i w : ℕ) (whole : k + (i + 8) ≡ 120) (window : w ≡ bits t (k + (i + 8))) where

@@ -1,5 +1,5 @@
 // The way along the sequence, a byte or eight bytes at a time.
-ghost use Rattle.std.specs.Prelude.{◌≡◌, ℕ, ◌+◌, ◌*◌, ◌<◌, length};
+ghost use Rattle.std.specs.Prelude.{◌≡◌, ℕ, ◌+◌, ◌*◌, ◌^◌, ◌<◌, ◌≤◌, length};
 ghost use Rattle.dispersal.specs.Stages.{At, bits, sequence, added, Twice, Begins};
 
 use crate::sequence::Sequence;
@@ -10,20 +10,10 @@ const FIRST: u128 = 0x03F6_0834_30B8_A393_C968_B773_B329_AA;
 // How many bytes are taken at once where there are so many.
 const GROUP: usize = 8;
 
-// How many values a byte has, and eight bytes.
-const BYTE: u128 = 1 << 8;
+// How many bits a byte has, and a window.
+const BITS: usize = 8;
 
-const EIGHT_BYTES: u128 = 1 << 64;
-
-// How many bits stand behind the first byte of a window, and behind its second.
-const BEHIND_FIRST: u128 = 112;
-
-const BEHIND_SECOND: u128 = 104;
-
-// How many stand behind its first eight bytes, and behind the eight from the second on.
-const BEHIND_EIGHT: u128 = 56;
-
-const BEHIND_NEXT_EIGHT: u128 = 48;
+const WINDOW: usize = 120;
 
 impl Sequence {
     // The sequence from its first byte on.
@@ -34,28 +24,29 @@ impl Sequence {
         Sequence { window: FIRST }
     }
 
-    // The next byte. The one that enters the window fifteen places behind it is the sum of it and the byte after it.
+    // The next bytes as a number, the first highest. As many enter the window behind it: the sums of these and the bytes one place further on.
+    fn advance<const BYTES: usize>(&mut self) -> u128
+        requires { BYTES ≤ 8 }
+        ensures fits { result < 2 ^ (8 * BYTES) }
+        ensures bytes { (n : ℕ) → At self.old.window n → result ≡ bits (8 * n) (8 * BYTES) }
+        ensures place { (n : ℕ) → At self.old.window n → At self.new.window (n + BYTES) }
+    {
+        let taken = BITS * BYTES;
+        let behind = WINDOW - taken;
+        let first = self.window >> behind;
+        let second = (self.window >> (behind - BITS)) % (1 << taken);
+        let kept = self.window % (1 << behind);
+        self.window = kept << taken | (first ^ second);
+        first
+    }
+
+    // The next byte.
+    #[tactic(auto, unfolding(crate::specs::Stages::sequence))]
     pub fn next(&mut self) -> u8
         ensures byte { (n : ℕ) → At self.old.window n → result ≡ sequence n }
         ensures place { (n : ℕ) → At self.old.window n → At self.new.window (n + 1) }
     {
-        let first = self.window >> BEHIND_FIRST;
-        let second = (self.window >> BEHIND_SECOND) % BYTE;
-        let kept = self.window % (1 << BEHIND_FIRST);
-        self.window = kept * BYTE + (first ^ second);
-        first as u8
-    }
-
-    // The next eight bytes as a number, the first highest.
-    fn next_eight(&mut self) -> u64
-        ensures bytes { (n : ℕ) → At self.old.window n → result ≡ bits (8 * n) 64 }
-        ensures place { (n : ℕ) → At self.old.window n → At self.new.window (n + 8) }
-    {
-        let first = self.window >> BEHIND_EIGHT;
-        let second = (self.window >> BEHIND_NEXT_EIGHT) % EIGHT_BYTES;
-        let kept = self.window % (1 << BEHIND_EIGHT);
-        self.window = kept * EIGHT_BYTES + (first ^ second);
-        first as u64
+        self.advance::<1>() as u8
     }
 
     // Adds the next eight bytes of the sequence to eight bytes.
@@ -64,9 +55,10 @@ impl Sequence {
         ensures bytes { (n : ℕ) → At self.old.window n → group.new ≡ added n group.old }
         ensures place { (n : ℕ) → At self.old.window n → At self.new.window (n + 8) }
     {
-        let eight = self.next_eight().to_be_bytes();
-        for k in 0..GROUP {
-            group[k] ^= eight[k];
+        let eight = (self.advance::<GROUP>() as u64).to_be_bytes();
+        // The eight by index, since nothing is known of the group after a `zip`.
+        for (k, byte) in group.iter_mut().enumerate() {
+            *byte ^= eight[k];
         }
     }
 
@@ -86,6 +78,7 @@ impl Sequence {
         ensures place { (n : ℕ) → At self.old.window n → At self.new.window (n + length bytes.old) }
         ensures twice { Twice }
     {
+        // By index, since nothing is known of the bytes after `as_chunks_mut`.
         let groups = bytes.len() / GROUP;
         for group in 0..groups {
             self.add_group(&mut bytes[GROUP * group..GROUP * group + GROUP]);
@@ -97,8 +90,8 @@ impl Sequence {
     pub fn skip(&mut self, count: usize)
         ensures { (n : ℕ) → At self.old.window n → At self.new.window (n + count) }
     {
-        for passed in 0..count {
-            let _ = self.next();
+        for _ in 0..count {
+            self.next();
         }
     }
 }

@@ -25,6 +25,7 @@ pub trait Feed {
         ensures formed { WellFormed (lists self.now) };
 
     // Takes the stream's next packet into `to`, and says whether there was one.
+    // A bool, since the packet goes into the caller's bytes and leaves nothing to hand back in an Option.
     fn take(&mut self, stream: u8, to: &mut [u8; PACKET_BYTES]) -> bool
         ensures took { Took (lists self.old) stream result (lists self.new) to.old to.new }
         ensures kept { result ≡ false → self.new ≡ self.old }

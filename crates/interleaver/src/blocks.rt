@@ -41,9 +41,8 @@ pub(crate) fn place(k: usize) -> usize
 fn rest_all<T: Element>(into: &mut [T])
     ensures { into.new ≡ resting T.Element.idle into.old }
 {
-    for x in into.iter_mut() {
-        *x = T::rest();
-    }
+    let rest = T::rest();
+    into.fill_with(|| rest);
 }
 
 // Refuses a source or a target that is no block; the target is then left full of rest elements.

@@ -3,7 +3,7 @@ ghost use Rattle.std.specs.Prelude.{◌≡◌, OnOk};
 ghost use Rattle.interleaver.specs.Blocks.{interleaved, deinterleaved};
 ghost use Rattle.interleaver.specs.Calls.{Moved};
 
-use crate::blocks::{SIZE, WrongLength, admit, place};
+use crate::blocks::{WrongLength, admit, place};
 use crate::element::Element;
 
 // Interleaves a block into another.
@@ -12,8 +12,8 @@ pub fn interleave<T: Element>(block: &[T], into: &mut [T]) -> Result<(), WrongLe
     ensures undone { OnOk result (deinterleaved T.Element.idle into.new ≡ block.now) }
 {
     admit(block, into)?;
-    for k in 0..SIZE {
-        into[k] = block[place(k)];
+    for (k, x) in into.iter_mut().enumerate() {
+        *x = block[place(k)];
     }
     Ok(())
 }
@@ -24,8 +24,8 @@ pub fn deinterleave<T: Element>(block: &[T], into: &mut [T]) -> Result<(), Wrong
     ensures undone { OnOk result (interleaved T.Element.idle into.new ≡ block.now) }
 {
     admit(block, into)?;
-    for k in 0..SIZE {
-        into[place(k)] = block[k];
+    for (k, x) in block.iter().enumerate() {
+        into[place(k)] = *x;
     }
     Ok(())
 }

@@ -5,6 +5,7 @@ ghost use Rattle.std.specs.Prelude.{◌≡◌};
 const REST: u8 = 0;
 
 // A kind of element that names its rest element.
+// Not `Default`, which says only what holds of a default value, since clauses cite the rest element itself.
 pub trait Element: Copy + Drop {
     ghost idle: { Self };
 

@@ -1,25 +1,40 @@
 // The files that a job names.
-ghost use Rattle.job_run.specs.Readings.{Installs, Chosen};
-ghost use Rattle.std.specs.Prelude.{IfOk};
+ghost use Rattle.job_run.specs.Readings.{Chosen, Installs, Read, held};
+ghost use Rattle.run_inputs.specs.declared.source.Source.{Source};
+ghost use Rattle.std.specs.Prelude.{IfOk, List, ℕ};
+ghost use denote.Ref.{Bor};
 
 use anyhow::anyhow;
 use modulate_job::{Change, Packets};
+use run_inputs::Source;
 use std::fs;
-use transmission::{Install, Source, Stated};
+use transmission::{Install, stated};
 
 // The bytes of a file, or what is wrong with it and which it is.
 pub(crate) fn read_file(rt: &HostRuntime, path: &str) -> anyhow::Result<Vec<u8>> {
-    match fs::read(rt, path) {
-        Ok(bytes) => Ok(bytes),
-        Err(error) => Err(anyhow!(format!(in rt.alloc(); "{path}: {error}")?)),
+    fs::read(rt, path).map_err(|error| anyhow!("{path}: {error}"))
+}
+
+// Where the packets come from, with the bytes of a packet file.
+pub(crate) fn read_packets(
+    rt: &HostRuntime,
+    packets: Packets<'_>,
+) -> anyhow::Result<Source<Vec<u8>>>
+    ensures { IfOk result (λ source. Read packets.entry source) }
+{
+    match packets {
+        Packets::File(path) => Ok(Source::File(read_file(rt, path)?)),
+        Packets::Pattern(counts) => Ok(Source::Pattern(counts)),
     }
 }
 
-// The bytes of the packet file, and none for a pattern.
-pub(crate) fn read_packets(rt: &HostRuntime, packets: Packets<'_>) -> anyhow::Result<Vec<u8>> {
+// The same, with the bytes lent.
+pub(crate) fn lend(packets: &Source<Vec<u8>>) -> transmission::Source<'_>
+    ensures { (asked : Source (Bor (List ℕ))) → Read asked packets.now → Chosen asked (held packets.now) result }
+{
     match packets {
-        Packets::File(path) => read_file(rt, path),
-        Packets::Pattern(_) => Ok(Vec::new(rt.alloc())),
+        Source::File(bytes) => Source::File(bytes.as_slice()),
+        Source::Pattern(counts) => Source::Pattern(*counts),
     }
 }
 
@@ -32,21 +47,11 @@ pub(crate) fn read_installs(
 {
     let mut installs = Vec::new(rt.alloc());
     for change in changes {
-        let file = read_file(rt, change.path)?;
+        let file = read_file(rt, change.plan)?;
         installs.push(Install {
             at: change.at,
-            stated: Stated::of(file.as_slice()),
+            plan: stated(file.as_slice()),
         })?;
     }
     Ok(installs)
-}
-
-// Where the packets of a run come from, with the bytes of their file.
-pub(crate) fn source<'a>(packets: Packets<'_>, file: &'a [u8]) -> Source<'a>
-    ensures { Chosen packets.entry file.now result }
-{
-    match packets {
-        Packets::File(_) => Source::File(file),
-        Packets::Pattern(counts) => Source::Pattern(counts),
-    }
 }

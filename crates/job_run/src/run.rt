@@ -2,9 +2,9 @@
 ghost use Rattle.job_run.specs.Readings.{Ran};
 ghost use Rattle.std.specs.Prelude.{OnOk};
 
-use crate::files::{read_file, read_installs, read_packets, source};
+use crate::files::{lend, read_file, read_installs, read_packets};
 use modulate_job::Job;
-use transmission::{Outlet, Stated, perform};
+use transmission::{Outlet, perform, stated};
 
 // Reads all files that a job names, and then makes its run.
 pub fn run_job<O: Outlet>(rt: &HostRuntime, job: &Job<'_>, outlet: &mut O) -> anyhow::Result<()>
@@ -15,8 +15,8 @@ pub fn run_job<O: Outlet>(rt: &HostRuntime, job: &Job<'_>, outlet: &mut O) -> an
     let installs = read_installs(rt, job.changes.as_slice())?;
     perform(
         rt.alloc(),
-        Stated::of(plan.as_slice()),
-        source(job.packets, packets.as_slice()),
+        stated(plan.as_slice()),
+        lend(&packets),
         installs.as_slice(),
         job.count,
         outlet,

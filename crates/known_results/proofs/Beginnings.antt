@@ -24,10 +24,7 @@ rest_fields f others = numbers 3 (take 47 others) ++ (numbers 16 f.ts_ids ++ ((5
 split_lists :
     (f : Fields) (others : List ℕ) → FortySixAndTwo f → f.streams ≡ 0 ∷ others → tmcc_fields 0 f ≡ first_fields ++ rest_fields f others
 unfolding tmcc_fields body lines numbers first_fields rest_fields
-split_lists f others p e =
-    ap (λ (ws : List ℕ). (5, 0) ∷ (lines 4 6 ws f.counts ++ (numbers 3 (take 48 f.streams) ++ (numbers 16 f.ts_ids ++ ((5, f.control) ∷ (62, f.expanded) ∷ []))))) p.words
-    ∙ ap (λ (cs : List ℕ). (5, 0) ∷ (lines 4 6 (7 ∷ 2 ∷ 15 ∷ 15 ∷ []) cs ++ (numbers 3 (take 48 f.streams) ++ (numbers 16 f.ts_ids ++ ((5, f.control) ∷ (62, f.expanded) ∷ []))))) p.counts
-    ∙ ap (λ (ss : List ℕ). (5, 0) ∷ (lines 4 6 (7 ∷ 2 ∷ 15 ∷ 15 ∷ []) (46 ∷ 2 ∷ 0 ∷ 0 ∷ []) ++ (numbers 3 (take 48 ss) ++ (numbers 16 f.ts_ids ++ ((5, f.control) ∷ (62, f.expanded) ∷ []))))) e
+split_lists f others p e = rw (p.words, p.counts, e) refl
 
 first_number : joined 0 first_fields ≡ 0x03DC41781E00
 unfolding joined first_fields
@@ -49,19 +46,12 @@ uncons (x ∷ xs) n len e = (xs, ap (λ (y : ℕ). y ∷ xs) e)
 
 pub data_begin : DataBegin
 data_begin f b p zero-stream bytes t =
-    let streams = uncons f.streams 47 t.shaped.2 zero-stream in
+    let streams = uncons f.streams 47 t.shaped.1 zero-stream in
     let others = streams.0 in
     let holds : Holds b (first_fields ++ rest_fields f others) = subst (λ (l : List Field). Holds b l) (split_lists f others p streams.1) t.holds in
     let all : front b 48 ≡ 0x03DC41781E00 = ap (front b) (sym first_width) ∙ holds_front b first_fields (rest_fields f others) holds ∙ first_number in
-    let none = front_none b in
-    let o : front b 8 ≡ front b 0 * 256 + get_or b 0 0 = front_byte b 0 (bytes 0) in
-    let q : front b 16 ≡ front b 8 * 256 + get_or b 1 0 = front_byte b 1 (bytes 1) in
-    let r : front b 24 ≡ front b 16 * 256 + get_or b 2 0 = front_byte b 2 (bytes 2) in
-    let s : front b 32 ≡ front b 24 * 256 + get_or b 3 0 = front_byte b 3 (bytes 3) in
-    let u : front b 40 ≡ front b 32 * 256 + get_or b 4 0 = front_byte b 4 (bytes 4) in
-    let v : front b 48 ≡ front b 40 * 256 + get_or b 5 0 = front_byte b 5 (bytes 5) in
     six (get_or b 0 0) (get_or b 1 0) (get_or b 2 0) (get_or b 3 0) (get_or b 4 0) (get_or b 5 0) (bytes 0) (bytes 1) (bytes 2) (bytes 3) (bytes 4) (bytes 5)
-    (omega (arith, none, o, q, r, s, u, v, all))
+    (omega (arith, all, front_none b, front_byte b 0 (bytes 0), front_byte b 1 (bytes 1), front_byte b 2 (bytes 2), front_byte b 3 (bytes 3), front_byte b 4 (bytes 4), front_byte b 5 (bytes 5)))
 
 pub sequence_begins : SequenceBegins
 unfolding sequence bits state

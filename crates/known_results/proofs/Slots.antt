@@ -1,5 +1,5 @@
 -- The slots of the plan of 46 and two. Assumes nothing.
-use Rattle.std.proofs.Common.{◌≡◌, ℕ, ◌-◌, ◌%◌, Bool, true, false, ltb, List, [], ◌∷◌, refl, ap, ◌∙◌, arith}
+use Rattle.std.proofs.Common.{◌≡◌, ℕ, ◌-◌, ◌%◌, Bool, true, false, ltb, List, [], ◌∷◌, refl, ◌∙◌, arith}
 use Rattle.slot_plan.specs.Layout.{active, mode_word, word_among, place_among}
 use Rattle.slot_plan.specs.Modes.{unit, active_in_unit}
 use Rattle.slot_plan.specs.declared.fields.Fields.{Fields}
@@ -10,10 +10,6 @@ use Rattle.known_results.specs.Known.{OneDummy, FortySixAndTwo}
 active_at : List ℕ → List ℕ → ℕ → Bool
 active_at ws cs p = ltb (place_among cs p % unit (word_among ws cs p)) (active_in_unit (word_among ws cs p))
 
-active_by : (f : Fields) (slot : ℕ) → active f slot ≡ active_at f.words f.counts (slot - 1)
-unfolding active mode_word active_at
-active_by f slot = refl
-
 all_active : every 47 (active_at (7 ∷ 2 ∷ 15 ∷ 15 ∷ []) (46 ∷ 2 ∷ 0 ∷ 0 ∷ [])) ≡ true
 unfolding every active_at
 all_active = refl
@@ -23,9 +19,8 @@ unfolding active_at
 last_dummy = refl
 
 own : (f : Fields) → FortySixAndTwo f → (slot : ℕ) → active f slot ≡ active_at (7 ∷ 2 ∷ 15 ∷ 15 ∷ []) (46 ∷ 2 ∷ 0 ∷ 0 ∷ []) (slot - 1)
-own f p slot =
-    active_by f slot ∙ ap (λ (ws : List ℕ). active_at ws f.counts (slot - 1)) p.words
-    ∙ ap (λ (cs : List ℕ). active_at (7 ∷ 2 ∷ 15 ∷ 15 ∷ []) cs (slot - 1)) p.counts
+unfolding active mode_word active_at
+own f p slot = rw (p.words, p.counts) refl
 
 pub one_dummy : OneDummy
 one_dummy f p = (

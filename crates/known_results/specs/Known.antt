@@ -12,7 +12,7 @@ use Rattle.outer_code.specs.declared.fault.CodeFault.{CodeFault}
 use Rattle.plan_formats.specs.Formats.{Bytes, TmccData}
 use Rattle.tmcc_word.specs.Words.{IsTmccCodeword}
 use Rattle.slot_plan.specs.Faults.{First, number, rank}
-use Rattle.slot_plan.specs.Layout.{active}
+use Rattle.slot_plan.specs.Layout.{active, words, counts}
 use Rattle.slot_plan.specs.Rules.{Passes}
 use Rattle.slot_plan.specs.declared.fault.PlanFault.TheVariants.{ModeWord, LineCount}
 use Rattle.slot_plan.specs.declared.fields.Fields.{Fields}
@@ -57,8 +57,8 @@ Lengths = (super_size 1 ≡ 1720) × (super_size 48 ≡ 78048)
 -- a line of 46 slots in mode 7 and a line of two slots in mode 2
 pub record FortySixAndTwo (f : Fields) : Type 0 where
   pub slots : f.slots ≡ 48
-  pub words : f.words ≡ 7 ∷ 2 ∷ 15 ∷ 15 ∷ []
-  pub counts : f.counts ≡ 46 ∷ 2 ∷ 0 ∷ 0 ∷ []
+  pub words : words f ≡ 7 ∷ 2 ∷ 15 ∷ 15 ∷ []
+  pub counts : counts f ≡ 46 ∷ 2 ∷ 0 ∷ 0 ∷ []
 
 -- its slot 48 alone is a dummy slot
 abbrev pub OneDummy : Type 0
@@ -82,14 +82,14 @@ SuperFrameBegins =
 -- mode words 2 and then 7 are refused by 4 at line 2
 abbrev pub RisingWords : Type 0
 RisingWords =
-    (f : Fields) → 1 ≤ f.slots → f.slots ≤ 48 → slice_index f.words 0 ≡ 2 → slice_index f.words 1 ≡ 7 →
+    (f : Fields) → 1 ≤ f.slots → f.slots ≤ 48 → slice_index (words f) 0 ≡ 2 → slice_index (words f) 1 ≡ 7 →
     First (Passes f) rank (ModeWord 2) × (number (ModeWord 2) ≡ 4)
 
 -- mode word 4 with a count of 6 in line 1, where the mode words are right, is refused by 5 at line 1
 abbrev pub BrokenUnit : Type 0
 BrokenUnit =
-    (f : Fields) → 1 ≤ f.slots → f.slots ≤ 48 → ((line : ℕ) → Passes f (ModeWord line)) → slice_index f.words 0 ≡ 4 →
-    slice_index f.counts 0 ≡ 6 → First (Passes f) rank (LineCount 1) × (number (LineCount 1) ≡ 5)
+    (f : Fields) → 1 ≤ f.slots → f.slots ≤ 48 → ((line : ℕ) → Passes f (ModeWord line)) → slice_index (words f) 0 ≡ 4 →
+    slice_index (counts f) 0 ≡ 6 → First (Passes f) rank (LineCount 1) × (number (LineCount 1) ≡ 5)
 
 -- with the bound 6, six wrong bytes are corrected and seven to ten refused, in a slot word and in a TMCC word
 abbrev pub SixErrors : Type 0

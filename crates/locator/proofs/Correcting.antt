@@ -1,7 +1,14 @@
 -- Errors at the listed places, taken away.
 -- Assumes nothing.
-use Rattle.std.proofs.Common.{◌≡◌, ℕ, zero, suc, ◌-◌, ◌<◌, ◌≤◌, ◌≢◌, ◌⊎◌, List, [], ◌∷◌, length, get_or, set, sym, refl, ap, ◌∙◌, inl, inr, arith, length-set, get_or-set_other, get_or-set_same}
-use Rattle.std.proofs.lemmas.List.{get_or_past, set_past}
+use Rattle.std.proofs.Common.{Bor, Iter, Option, Some, None, ◌≡◌, ℕ, zero, suc, ◌-◌, ◌<◌, ◌≤◌, ◌≢◌, ◌⊎◌, List, [], ◌∷◌, length, get_or, set, take, sym, refl, ap, ◌∙◌, inl, inr, arith, length-set, length-take, length-take-le, get_or-set_other, get_or-set_same}
+use Rattle.std.proofs.lemmas.List.{get_or-take, get_or_past, set_past}
+use Rattle.std.proofs.lemmas.Iterator.{zips}
+use Rattle.std.proofs.lemmas.Slice.Zip.{zip_turn, zip_end}
+use Rattle.std.proofs.iter.Yields.{fronts}
+use Rattle.std.specs.Iterator.{Yields}
+use Rattle.std.specs.Iterator.Adapters.{zip_first, zip_second}
+use Rattle.std.specs.Slice.Iter.{iter_rest}
+use Rattle.std.specs.declared.iter.Zip.{Zip}
 use Rattle.field256.specs.Field.{plus, times, power}
 use Rattle.field256.proofs.Laws.{plus_assoc, plus_comm, plus_left_comm, plus_self, plus_zero, plus_fits, plus_times}
 use Rattle.code_theory.specs.Codeword.{Bytes, Codeword, distance}
@@ -49,6 +56,20 @@ byte_other m place places values w o =
     let so_far : List ℕ = corrected m places values w in
     rw (corrected_more m places values w, changed_set so_far (get_or places m 0) (get_or values m 0))
     (get_or-set_other so_far (get_or places m 0) place _ 0 (λ e. o (sym e)))
+
+-- a walk over the errors, which has come to as many as it has yielded
+module _ (count : ℕ) (places values : List ℕ) (yielded : List (Bor ℕ × Bor ℕ)) (s t u : Zip (Iter ℕ) (Iter ℕ)) (r : Option (Bor ℕ × Bor ℕ))
+    (first : iter_rest (zip_first s) ≡ take count places) (second : iter_rest (zip_second s) ≡ values) (so_far : Yields (zips fronts fronts) s yielded t)
+    (step : zips fronts fronts t r u) where
+  pub error_here : (p : Bor ℕ × Bor ℕ) → r ≡ Some p → (p.0.now ≡ get_or places (length yielded) 0) × (p.1.now ≡ get_or values (length yielded) 0)
+  error_here p e =
+      let h = zip_turn (take count places) values yielded s t u r first second so_far p e step in
+      let inside : length yielded < count = omega (arith, h.0, length-take count places) in
+      (h.2 0 ∙ get_or-take count places (length yielded) 0 inside, h.3 0)
+
+  pub errors_end : count ≤ length places → count ≤ length values → r ≡ None → length yielded ≡ count
+  errors_end few room e =
+      omega (arith, length-take-le count places few, zip_end (take count places) values yielded s t u r first second so_far e step)
 
 same_or : (a b : ℕ) → (a ≡ b) ⊎ (a ≢ b)
 same_or a b = search arith

@@ -11,3 +11,4 @@ pub mod Widening
 pub mod Weighing
 pub mod Interpolating
 pub mod Extending
+pub mod Filling

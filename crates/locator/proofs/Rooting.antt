@@ -1,6 +1,20 @@
 -- The search for the places at which a polynomial is zero.
 -- Assumes nothing.
-use Rattle.std.proofs.Common.{◌≡◌, ℕ, zero, suc, ◌+◌, ◌-◌, ◌<◌, ◌≤◌, ◌≢◌, ◌⊎◌, List, length, get_or, set, replicate, sym, refl, ◌∙◌, inl, inr, arith, length-set, get_or-set_other, get_or-set_same}
+use Rattle.std.proofs.Common.{Bor, Iter, Option, Some, None, ◌≡◌, ℕ, zero, suc, ◌+◌, ◌-◌, ◌<◌, ◌≤◌, ◌≢◌, ◌⊎◌, List, length, get_or, set, take, replicate, reverse, ap, sym, refl, ◌∙◌, inl, inr, arith, length-set, length-take-le, get_or-set_other, get_or-set_same}
+use Rattle.std.specs.List.{zip, range_with_len}
+use Rattle.std.proofs.lemmas.List.{get_or-reverse, get_or-take, get_or_default, length-reverse}
+use Rattle.std.proofs.lemmas.List.FromFn.{length-range_with_len, get_or-range_with_len}
+use Rattle.std.proofs.lemmas.Slice.Zip.{length-zip, get_or-zip}
+use Rattle.std.proofs.lemmas.Iterator.{YieldsList, YieldsList-from_range, YieldsList-from_zip, zips}
+use Rattle.std.proofs.lemmas.Iterator.Adapters.{YieldsList-from_rev_slice}
+use Rattle.std.proofs.lemmas.Iterator.Consumers.{YieldsList-turn, YieldsList-end}
+use Rattle.std.proofs.iter.Yields.{nat_range_steps}
+use Rattle.std.specs.Iterator.{Yields}
+use Rattle.std.specs.Iterator.Adapters.{zip_first, zip_second, rev_source, rev_steps}
+use Rattle.std.specs.Slice.Iter.{iter_rest, iter_steps_back}
+use Rattle.std.specs.declared.iter.Zip.{Zip}
+use Rattle.std.specs.declared.iter.Rev.{Rev}
+use Rattle.std.specs.declared.ops.Range.{Range}
 use Rattle.field256.proofs.Laws.{power_fits, two_power_distinct}
 use Rattle.code_theory.specs.Sequences.{polynomial, place}
 use Rattle.locator.specs.Roots.{OfDegree, Listed, Roots}
@@ -137,3 +151,47 @@ searched p degree n k count list e small h =
         | inr b ↦ get_or-set_other list count m 0 0 (omega arith) ∙ h.spare m b
       ];
     }
+
+-- a walk over the last places, with the values of the powers that they stand for
+module _ (n reach : ℕ) (values : List ℕ) (few : reach ≤ n) (room : reach ≤ length values) (yielded : List (ℕ × Bor ℕ)) (s t u : Zip (Range ℕ) (Rev (Iter ℕ)))
+    (r : Option (ℕ × Bor ℕ)) (first : zip_first s ≡ record { start = n - reach; end = n }) (second : iter_rest (rev_source (zip_second s)) ≡ take reach values)
+    (so_far : Yields (zips nat_range_steps (rev_steps iter_steps_back)) s yielded t) (step : zips nat_range_steps (rev_steps iter_steps_back) t r u) where
+  walked : YieldsList {B = ℕ × ℕ} (zips nat_range_steps (rev_steps iter_steps_back)) (λ p. (p.0, p.1.now)) s (zip (range_with_len (n - reach) reach) (reverse (take reach values)))
+  walked = YieldsList-from_zip (YieldsList-from_range (n - reach) n reach first (omega arith)) (YieldsList-from_rev_slice (take reach values) second)
+
+  long : length (range_with_len (n - reach) reach) ≡ reach
+  long = length-range_with_len (n - reach) reach
+
+  too : length (take reach values) ≡ reach
+  too = length-take-le reach values room
+
+  pub place_here : (p : ℕ × Bor ℕ) → r ≡ Some p
+      → (length yielded < reach) × (p.0 ≡ n - reach + length yielded) × (p.1.now ≡ get_or values (n - 1 - p.0) 0)
+  place_here p e =
+      let m : ℕ = length yielded in
+      let k : ℕ = p.0 in
+      let v : ℕ = p.1.now in
+      let ks : List ℕ = range_with_len (n - reach) reach in
+      let vs : List ℕ = take reach values in
+      let h = YieldsList-turn walked yielded t so_far r u p e step in
+      let below : m < reach = omega (arith, h.0, long, too, length-zip ks (reverse vs), length-reverse vs) in
+      let pair : ◌≡◌ {A = ℕ × ℕ} (k, v) (get_or ks m k, get_or (reverse vs) m v)
+      = h.1 ∙ get_or-zip ks (reverse vs) m (k, v) (omega (arith, long)) (omega (arith, too, length-reverse vs)) in
+      let place : k ≡ n - reach + m = ap (λ (p : ℕ × ℕ). p.0) pair ∙ get_or-range_with_len (n - reach) reach m k below in
+      let from_end : length vs - 1 - m ≡ n - 1 - k = omega (arith, too) in (
+        below,
+        place,
+        ap (λ (p : ℕ × ℕ). p.1) pair ∙ get_or_default (reverse vs) m v 0 (omega (arith, too, length-reverse vs)) ∙ get_or-reverse vs m 0 (omega (arith, too))
+            ∙ ap (λ (i : ℕ). get_or vs i 0) from_end ∙ get_or-take reach values (n - 1 - k) 0 (omega arith),
+      )
+
+  pub places_end : r ≡ None → n - reach + length yielded ≡ n
+  places_end e =
+      omega (
+        arith,
+        (YieldsList-end walked yielded t so_far r u e step).1,
+        long,
+        too,
+        length-zip (range_with_len (n - reach) reach) (reverse (take reach values)),
+        length-reverse (take reach values),
+      )

@@ -1,6 +1,9 @@
 -- The quotient's coefficients from the highest down: paired with a sequence, and as a value.
 -- Assumes nothing.
-use Rattle.std.proofs.Common.{◌≡◌, ℕ, suc, ◌<◌, List, [], ◌∷◌, length, get_or, drop, sym, refl, ap, ◌∙◌, zero-add, drop-cons}
+use Rattle.std.proofs.Common.{◌≡◌, ℕ, suc, ◌-◌, ◌<◌, List, [], ◌∷◌, length, get_or, drop, reverse, sym, refl, ap, ◌∙◌, zero-add, drop-cons, arith}
+use Rattle.std.specs.List.{zip}
+use Rattle.std.proofs.lemmas.List.{get_or-reverse, get_or_default, length-reverse}
+use Rattle.std.proofs.lemmas.Slice.Zip.{length-zip, get_or-zip}
 use Rattle.field256.specs.Field.{plus, times, power}
 use Rattle.field256.proofs.Laws.{plus_self, times_zero, zero_times, times_one, times_left_comm, power_zero, power_suc}
 use Rattle.code_theory.specs.Codeword.{Bytes}
@@ -58,3 +61,18 @@ pub dot_more : (q s : List ℕ) (j : ℕ) → j < length q → j < length s
     → dot (drop j q) (drop j s) ≡ plus (times (get_or q j 0) (get_or s j 0)) (dot (drop (suc j) q) (drop (suc j) s))
 unfolding dot
 dot_more q s j l k = rw (drop-cons q j 0 l, drop-cons s j 0 k) refl
+
+-- two lists of the same length, walked from the end
+pub from_the_end : (ks vs : List ℕ) (d n a b : ℕ) → length ks ≡ d → length vs ≡ d
+    → (n < length (zip (reverse ks) (reverse vs))) × ((a, b) ≡ get_or (zip (reverse ks) (reverse vs)) n (a, b))
+    → (n < d) × (a ≡ get_or ks (d - suc n) 0) × (b ≡ get_or vs (d - suc n) 0)
+from_the_end ks vs d n a b long too h =
+    let below : n < d = omega (arith, h.0, length-zip (reverse ks) (reverse vs), length-reverse ks, length-reverse vs) in
+    let pair : ◌≡◌ {A = ℕ × ℕ} (a, b) (get_or (reverse ks) n a, get_or (reverse vs) n b)
+    = h.1 ∙ get_or-zip (reverse ks) (reverse vs) n (a, b) (omega (arith, length-reverse ks)) (omega (arith, length-reverse vs)) in
+    let here : length ks - 1 - n ≡ d - suc n = omega arith in
+    let there : length vs - 1 - n ≡ d - suc n = omega arith in (
+      below,
+      ap (λ (p : ℕ × ℕ). p.0) pair ∙ get_or_default (reverse ks) n a 0 (omega (arith, length-reverse ks)) ∙ get_or-reverse ks n 0 (omega arith) ∙ ap (λ (i : ℕ). get_or ks i 0) here,
+      ap (λ (p : ℕ × ℕ). p.1) pair ∙ get_or_default (reverse vs) n b 0 (omega (arith, length-reverse vs)) ∙ get_or-reverse vs n 0 (omega arith) ∙ ap (λ (i : ℕ). get_or vs i 0) there,
+    )

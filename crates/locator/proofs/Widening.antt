@@ -1,6 +1,7 @@
 -- A polynomial multiplied by y less x, one more place at a time.
 -- Assumes nothing.
-use Rattle.std.proofs.Common.{◌≡◌, ℕ, zero, suc, ◌<◌, ◌⊎◌, List, length, get_or, set, replicate, sym, refl, ◌∙◌, inl, inr, arith}
+use Rattle.std.proofs.Common.{◌≡◌, ℕ, zero, suc, ◌+◌, ◌-◌, ◌<◌, ◌≤◌, ◌⊎◌, List, ◌∷◌, ◌++◌, length, get_or, set, drop, replicate, sym, refl, ◌∙◌, inl, inr, arith, length-append, length-drop, get_or-drop}
+use Rattle.std.proofs.lemmas.List.{get_or_append_left, get_or-append_right}
 use Rattle.field256.specs.Field.{plus, times}
 use Rattle.field256.proofs.Laws.{plus_assoc, plus_self, plus_zero, zero_plus, plus_fits, times_zero, zero_times, times_fits}
 use Rattle.code_theory.specs.Codeword.{Bytes}
@@ -17,7 +18,7 @@ module _ (p : List ℕ) (degree x : ℕ) (h : OfDegree 17 degree p) (room : degr
   widened_bytes zero = rw lowest (times_fits x (get_or p 0 0))
   widened_bytes (suc j) = rw (next j) (plus_fits _ _ (h.bytes j) (times_fits x (get_or p (suc j) 0)))
 
-  pub widened : OfDegree 17 (suc degree) r
+  widened : OfDegree 17 (suc degree) r
   widened =
       record {
         size = size;
@@ -37,10 +38,38 @@ module _ (p : List ℕ) (degree x : ℕ) (h : OfDegree 17 degree p) (room : degr
       sym (rw (next j, plus_assoc (get_or p j 0) (times x (get_or p (suc j) 0)) (times x (get_or p (suc j) 0)), plus_self (times x (get_or p (suc j) 0)))
       (plus_zero (get_or p j 0)))
 
-  pub widened_value : (y : ℕ) → polynomial 17 r y ≡ times (plus y x) (polynomial 17 p y)
+  widened_value : (y : ℕ) → polynomial 17 r y ≡ times (plus y x) (polynomial 17 p y)
   widened_value y =
       divided r p x widened_bytes back 16 (h.top 16 room) y
       ∙ rw (lowest, plus_self (times x (get_or p 0 0))) (zero_plus (times (plus y x) (polynomial 17 p y)))
+
+-- ---- the coefficients that change, and those above them
+
+below_or : (i n : ℕ) → (i < n) ⊎ (n ≤ i)
+below_or i n = search arith
+
+module _ (p : List ℕ) (degree x : ℕ) (h : OfDegree 17 degree p) (room : degree < 16) (items : List ℕ) (size : length items ≡ degree + 2)
+    (made : (j : ℕ) → j < degree + 2 → get_or items j 0 ≡ plus (get_or (0 ∷ p) j 0) (times x (get_or p j 0))) where
+  joined_size : length (items ++ drop (degree + 2) p) ≡ 17
+  joined_size = omega (arith, length-append items (drop (degree + 2) p), length-drop (degree + 2) p, h.size)
+
+  joined_lowest : get_or (items ++ drop (degree + 2) p) 0 0 ≡ times x (get_or p 0 0)
+  joined_lowest = get_or_append_left items (drop (degree + 2) p) 0 0 (omega arith) ∙ made 0 (omega arith) ∙ zero_plus (times x (get_or p 0 0))
+
+  joined_next : (j : ℕ) → get_or (items ++ drop (degree + 2) p) (suc j) 0 ≡ plus (get_or p j 0) (times x (get_or p (suc j) 0))
+  joined_next j = elim (below_or (suc j) (degree + 2)) [
+    | inl l ↦ get_or_append_left items (drop (degree + 2) p) 0 (suc j) (omega arith) ∙ made (suc j) l
+    | inr l ↦
+        get_or-append_right items (drop (degree + 2) p) (degree + 2) (suc j) 0 size l ∙ get_or-drop (degree + 2) p (suc j - (degree + 2)) 0
+        ∙ h.top (degree + 2 + (suc j - (degree + 2))) (omega arith)
+        ∙ sym (rw (h.top j (omega arith), h.top (suc j) (omega arith), times_zero x) (plus_self 0))
+  ]
+
+  pub joined : OfDegree 17 (suc degree) (items ++ drop (degree + 2) p)
+  joined = widened p degree x h room _ joined_size joined_lowest joined_next
+
+  pub joined_value : (y : ℕ) → polynomial 17 (items ++ drop (degree + 2) p) y ≡ times (plus y x) (polynomial 17 p y)
+  joined_value = widened_value p degree x h room _ joined_size joined_lowest joined_next
 
 -- ---- the polynomial of the first places of a list
 

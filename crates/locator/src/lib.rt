@@ -10,6 +10,6 @@ mod sequence;
 mod values;
 
 pub use errors::Errors;
-pub use polynomial::Locator;
+pub use polynomial::{Locator, Polynomial};
 pub use roots::Places;
 pub use values::bytes_at;

@@ -1,18 +1,16 @@
-// Polynomials over the field: locators.
-ghost use Rattle.std.specs.Prelude.{◌≡◌, ℕ, ◌<◌, length, ◌≢◌, slice_index};
-ghost use Rattle.code_theory.specs.Codeword.{Bytes};
+// Polynomials over the field: locators among them.
+ghost use Rattle.locator.specs.Roots.{OfDegree};
 
-// How many coefficients a polynomial has.
+// A polynomial with room for so many coefficients: its coefficients, lowest first, and its degree.
+#[derive(Clone, Copy)]
+pub struct Polynomial<const TERMS: usize> {
+    pub coefficients: [u8; TERMS],
+    pub degree: usize,
+    ghost shape: { OfDegree TERMS degree coefficients },
+}
+
+// How many coefficients a locator has.
 pub const SIZE: usize = 9;
 
-// The polynomial that is zero at the places of a word's errors: its coefficients, lowest first, and its degree.
-#[derive(Clone, Copy)]
-pub struct Locator {
-    pub coefficients: [u8; SIZE],
-    pub degree: usize,
-    ghost size: { length coefficients ≡ 9 },
-    ghost room: { degree < 9 },
-    ghost bytes: { Bytes coefficients },
-    ghost top: { (j : ℕ) → degree < j → slice_index coefficients j ≡ 0 },
-    ghost lead: { slice_index coefficients degree ≢ 0 },
-}
+// The polynomial that is zero at the places of a word's errors.
+pub type Locator = Polynomial<SIZE>;

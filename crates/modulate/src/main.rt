@@ -3,7 +3,6 @@
 
 mod output;
 
-use anyhow::anyhow;
 use job_run::run_job;
 use modulate_job::{Job, Words};
 use output::Output;
@@ -23,25 +22,18 @@ fn main(rt: HostRuntime) -> anyhow::Result<()> {
 
 // Makes the run of a job.
 fn send(rt: &HostRuntime, job: &Job<'_>, progress: bool) -> anyhow::Result<()> {
-    let progress = if progress { Some(job.count) } else { None };
-    let mut output = Output::new(rt, job.out, progress);
+    let mut output = Output::new(rt, job.out, progress.then_some(job.count));
     run_job(rt, job, &mut output)
 }
 
 // The words of the command line behind the program's own name.
 fn arguments(rt: &HostRuntime) -> anyhow::Result<Vec<String>> {
-    let mut words = Vec::new(rt.alloc());
-    for word in env::args(rt)?.skip(1) {
-        words.push(word)?;
-    }
-    Ok(words)
+    Ok(env::args(rt)?.skip(1).collect(rt.alloc())?)
 }
 
 // Does what the command line asks for.
 fn run(rt: &HostRuntime) -> anyhow::Result<()> {
     let words = Words::sorted(rt.alloc(), arguments(rt)?.as_slice())?;
-    match Job::of(rt.alloc(), words.asked.as_slice()) {
-        Ok(job) => send(rt, &job, words.progress),
-        Err(misuse) => Err(anyhow!(misuse.to_string(rt.alloc())?)),
-    }
+    let job = Job::of(rt.alloc(), words.asked.as_slice())?;
+    send(rt, &job, words.progress)
 }

@@ -1,7 +1,7 @@
 // Where a run goes: super-frames to a file, events to standard output.
 ghost use Rattle.std.specs.Prelude.{◌≡◌, None};
 
-use anyhow::anyhow;
+use anyhow::{Context, anyhow};
 use std::fs;
 use std::fs::File;
 use std::io::Write;
@@ -43,10 +43,8 @@ impl Outlet for Output<'_, '_> {
     }
 
     fn send(&mut self, bytes: &[u8]) -> anyhow::Result<()> {
-        match &mut self.out {
-            Some(out) => out.write_all(bytes)?,
-            None => return Err(anyhow!("no file to write")),
-        }
+        let out = self.out.as_mut().context("no file to write")?;
+        out.write_all(bytes)?;
         Ok(())
     }
 
@@ -61,8 +59,5 @@ impl Outlet for Output<'_, '_> {
 
 // A new file, or what is wrong with it and which it is.
 fn create(rt: &HostRuntime, path: &str) -> anyhow::Result<File> {
-    match fs::create(rt, path) {
-        Ok(file) => Ok(file),
-        Err(error) => Err(anyhow!(format!(in rt.alloc(); "{path}: {error}")?)),
-    }
+    fs::create(rt, path).map_err(|error| anyhow!("{path}: {error}"))
 }

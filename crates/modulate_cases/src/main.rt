@@ -3,7 +3,7 @@
 
 mod replay;
 
-use anyhow::{Context, anyhow};
+use anyhow::Context;
 use job_run::run_job;
 use modulate_job::Job;
 use replay::Replay;
@@ -22,19 +22,16 @@ struct Tally {
 
 // The words of a call behind the program's name.
 fn words(heap: Global, call: &str) -> Result<Vec<String>, AllocError> {
-    let mut words = Vec::new(heap);
-    for word in call.split(' ').skip(1) {
-        words.push(String::from_str(heap, word)?)?;
-    }
-    Ok(words)
+    call.split(' ')
+        .skip(1)
+        .map(|word| String::from_str(heap, word))
+        .try_collect(heap)
 }
 
 // What is told of a call's run, with the digests of its super-frames.
 fn replayed(rt: &HostRuntime, call: &str) -> anyhow::Result<String> {
     let words = words(rt.alloc(), call)?;
-    let Ok(job) = Job::of(rt.alloc(), words.as_slice()) else {
-        return Err(anyhow!("no job"));
-    };
+    let job = Job::of(rt.alloc(), words.as_slice())?;
     let mut replay = Replay::new(rt.alloc());
     run_job(rt, &job, &mut replay)?;
     Ok(replay.told)
@@ -42,10 +39,7 @@ fn replayed(rt: &HostRuntime, call: &str) -> anyhow::Result<String> {
 
 // The outcome of a call, line by line.
 fn outcome(rt: &HostRuntime, call: &str) -> Result<String, AllocError> {
-    match replayed(rt, call) {
-        Ok(told) => Ok(told),
-        Err(_) => String::from_str(rt.alloc(), FAILED),
-    }
+    replayed(rt, call).or_else(|_| String::from_str(rt.alloc(), FAILED))
 }
 
 // Makes each run, and prints what differs.

@@ -1,5 +1,5 @@
 // A run that is kept as text.
-ghost use Rattle.std.specs.Prelude.{◌≡◌, [], string_bytes};
+ghost use Rattle.std.specs.Prelude.{◌≡◌, [], None, Some, string_bytes};
 ghost use Rattle.digests.specs.Digests.{crc, fnv};
 
 use digests::{crc32, fnv1a};
@@ -7,23 +7,28 @@ use std::alloc::Global;
 use std::fmt::Write;
 use transmission::{Event, Outlet};
 
+// The digests of a super-frame's bytes.
+#[derive(Clone, Copy)]
+struct Digests {
+    crc: u32,
+    hash: u64,
+}
+
 // What was told, each event on a line of its own; behind a super-frame's stand the digests of its bytes.
 #[derive(Drop)]
 pub struct Replay {
     pub told: String,
-    crc: u32,
-    hash: u64,
+    sent: Option<Digests>,
 }
 
 impl Replay {
     // Nothing is told yet.
     pub fn new(heap: Global) -> Replay
-        ensures { (string_bytes result.told ≡ []) × (result.crc ≡ 0) × (result.hash ≡ 0) }
+        ensures { (string_bytes result.told ≡ []) × (result.sent ≡ None) }
     {
         Replay {
             told: String::new(heap),
-            crc: 0,
-            hash: 0,
+            sent: None,
         }
     }
 }
@@ -31,17 +36,19 @@ impl Replay {
 impl Outlet for Replay {
     ghost begins = { λ s t. t ≡ s };
 
-    ghost sends = { λ s bytes t. (t.crc ≡ crc bytes) × (t.hash ≡ fnv bytes) × (t.told ≡ s.told) };
+    ghost sends = { λ s bytes t. (t.sent ≡ Some (record { crc = crc bytes; hash = fnv bytes })) × (t.told ≡ s.told) };
 
-    ghost hears = { λ s _ t. (t.crc ≡ s.crc) × (t.hash ≡ s.hash) };
+    ghost hears = { λ s _ t. t.sent ≡ s.sent };
 
     fn begin(&mut self) -> anyhow::Result<()> {
         Ok(())
     }
 
     fn send(&mut self, bytes: &[u8]) -> anyhow::Result<()> {
-        self.crc = crc32(bytes);
-        self.hash = fnv1a(bytes);
+        self.sent = Some(Digests {
+            crc: crc32(bytes),
+            hash: fnv1a(bytes),
+        });
         Ok(())
     }
 
@@ -50,10 +57,8 @@ impl Outlet for Replay {
             self.told.push('\n')?;
         }
         write!(self.told, "{event}")?;
-        if let Event::Filled { .. } = event {
-            let crc = self.crc;
-            let hash = self.hash;
-            write!(self.told, " {crc:08X} {hash:016X}")?;
+        if let (Event::Filled { .. }, Some(digests)) = (event, self.sent) {
+            write!(self.told, " {:08X} {:016X}", digests.crc, digests.hash)?;
         }
         Ok(())
     }

@@ -5,38 +5,27 @@ ghost use Rattle.modulate_job.specs.Jobs.{Asks, Wrong};
 use crate::counts::named;
 use crate::job::Job;
 use crate::misuse::Misuse;
-use crate::number::number;
 use crate::pairs::pairs;
 use std::alloc::Global;
 
-// How many words are always there: a plan, packets, a number of super-frames and a file to write.
-const FIXED: usize = 4;
-
 impl<'a> Job<'a> {
-    // The job that words ask for, or what is wrong with them.
+    // The job that words ask for, or what is wrong with them. Four words are always there.
     pub fn of(heap: Global, words: &'a [String]) -> Result<Job<'a>, Misuse<'a>>
         ensures { MatchResult result (λ job. Asks (map string_bytes words.now) job) (λ e. Wrong (map string_bytes words.now) e) }
     {
-        if words.len() < FIXED {
+        let [plan, packets, count, out, changes @ ..] = words else {
             return Err(Misuse::Few);
-        }
-        let word = words[1].as_str();
-        let Some(packets) = named(word) else {
-            return Err(Misuse::Pattern(word));
         };
-        let word = words[2].as_str();
-        let Some(count) = number(word) else {
-            return Err(Misuse::Count(word));
-        };
-        match pairs(heap, &words[FIXED..]) {
-            Ok(changes) => Ok(Job {
-                plan: words[0].as_str(),
-                packets,
-                count,
-                out: words[3].as_str(),
-                changes,
-            }),
-            Err(misuse) => Err(misuse),
-        }
+        let word = packets.as_str();
+        let packets = named(word).ok_or(Misuse::Pattern(word))?;
+        let word = count.as_str();
+        let count = word.parse::<u32>().map_err(|_| Misuse::Count(word))?;
+        Ok(Job {
+            plan: plan.as_str(),
+            packets,
+            count,
+            out: out.as_str(),
+            changes: pairs(heap, changes)?,
+        })
     }
 }

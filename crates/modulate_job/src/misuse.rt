@@ -1,11 +1,14 @@
 // Why words ask for nothing that can be done.
 ghost use Rattle.modulate_job.specs.Texts.{text};
-ghost use Rattle.std.specs.Prelude.{Some};
+ghost use Rattle.modulate_job.specs.declared.misuse.Misuse.TheVariants.{Memory};
+ghost use Rattle.std.specs.Prelude.{◌≡◌, Some};
 
+use std::alloc::AllocFailed;
+use std::error::Error;
 use std::fmt;
 
 // What is wrong, with the word that is at fault.
-#[derive(Clone, Copy)]
+#[derive(Clone, Copy, PartialEq, Eq, Debug)]
 pub enum Misuse<'a> {
     // fewer words than the four that are always there
     Few,
@@ -36,5 +39,15 @@ impl fmt::Display for Misuse<'_> {
             Misuse::At(word) => write!(f, "AT is no number from 1 to 4294967295: {word}"),
             Misuse::Memory => write!(f, "no memory for the arguments"),
         }
+    }
+}
+
+impl Error for Misuse<'_> {}
+
+impl<T: Drop> From<AllocFailed<T>> for Misuse<'_> {
+    ghost from_gives = { λ _ m. m ≡ Memory };
+
+    fn from(_: AllocFailed<T>) -> Self {
+        Self::Memory
     }
 }

@@ -3,20 +3,19 @@ ghost use Rattle.std.specs.Prelude.{ℕ, map, string_bytes, MatchResult};
 ghost use Rattle.modulate_job.specs.Jobs.{Numbered, AsksChange, Changes, WrongChanges};
 ghost use Rattle.std.specs.Option as options;
 
-use crate::changes::Change;
+use crate::job::Change;
 use crate::misuse::Misuse;
-use crate::number::number;
 use std::alloc::Global;
 
 // The change that two words ask for.
-fn change<'a>(at: &'a str, path: &'a str) -> Option<Change<'a>>
-    ensures { options.MatchOption result ((n : ℕ) → Numbered at.now n → ⊥) (λ c. AsksChange at.now path.now c) }
+fn change<'a>(at: &str, plan: &'a str) -> Option<Change<'a>>
+    ensures { options.MatchOption result ((n : ℕ) → Numbered at.now n → ⊥) (λ c. AsksChange at.now plan.now c) }
 {
-    let at = number(at)?;
+    let at = at.parse().ok()?;
     if at < 1 {
         return None;
     }
-    Some(Change { at, path })
+    Some(Change { at, plan })
 }
 
 // The changes that words ask for, two words to each.
@@ -24,17 +23,12 @@ pub(crate) fn pairs(heap: Global, words: &[String]) -> Result<Vec<Change<'_>>, M
     ensures { MatchResult result (λ v. Changes (map string_bytes words.now) v.items) (λ e. WrongChanges (map string_bytes words.now) e) }
 {
     let mut changes = Vec::new(heap);
-    for k in 0..words.len() / 2 {
-        let at = words[2 * k].as_str();
-        let Some(next) = change(at, words[2 * k + 1].as_str()) else {
-            return Err(Misuse::At(at));
+    for pair in words.chunks(2) {
+        let [at, plan] = pair else {
+            return Err(Misuse::Lone(pair[0].as_str()));
         };
-        if changes.push(next).is_err() {
-            return Err(Misuse::Memory);
-        }
-    }
-    if words.len() % 2 == 1 {
-        return Err(Misuse::Lone(words[words.len() - 1].as_str()));
+        let at = at.as_str();
+        changes.push(change(at, plan.as_str()).ok_or(Misuse::At(at))?)?;
     }
     Ok(changes)
 }

@@ -3,6 +3,7 @@ pub mod Serving
 pub mod Carrying
 pub mod Lossless
 pub mod Advancing
+pub mod Rows
 pub mod Slots
 pub mod Finished
 pub mod Tallies

@@ -1,13 +1,18 @@
 -- The packet of a slot, by what the plan tells of the slot.
-use Rattle.std.proofs.Common.{◌≡◌, ℕ, Bool, true, false, cond, eqb, get_or, drop, sym, refl, ap, ◌∙◌, arith}
+use Rattle.std.proofs.Common.{◌≡◌, ℕ, Bool, true, false, cond, eqb, ◌≢◌, get_or, drop, sym, refl, ap, ◌∙◌, arith}
 use Rattle.slot_plan.specs.Layout.{active}
 use Rattle.slot_plan.specs.Views.{role_of, Tells}
 use Rattle.slot_plan.specs.declared.fields.Fields.{Fields}
+use Rattle.slot_plan.specs.declared.slots.Role.{Role}
 use Rattle.slot_plan.specs.declared.slots.Role.TheVariants.{Active, Dummy}
 use Rattle.slot_plan.specs.declared.slots.Slot.{Slot}
 use Rattle.feed.specs.Packets.{Packet, Lists}
 use Rattle.modulator.specs.Carried.{null_packet, serves}
 use Rattle.modulator.specs.Progress.{NextPacket}
+
+not_active : (role : Role) → role ≢ Active → role ≡ Dummy
+not_active Active other = absurd (other refl)
+not_active Dummy other = refl
 
 module _ (p : Fields) (slot : ℕ) (told : Slot) (tells : Tells p slot told) where
   is_active : told.role ≡ Active → active p slot ≡ true
@@ -35,10 +40,10 @@ module _ (p : Fields) (slot : ℕ) (told : Slot) (tells : Tells p slot told) whe
         rest = λ r. rest r ∙ rw (on, tells.stream);
       }
 
-  pub next_dummy : (before : Lists) (packet : Packet) → told.role ≡ Dummy → NextPacket p slot before packet before
+  pub next_other : (before : Lists) (packet : Packet) → told.role ≢ Active → NextPacket p slot before packet before
   unfolding serves
-  next_dummy before packet role =
-      let off = is_dummy role in
+  next_other before packet other =
+      let off = is_dummy (not_active told.role other) in
       record {
         active_slot = λ on. let z : ◌≡◌ {A = ℕ} 0 1 = cc in absurd (omega (arith, z));
         rest = λ r. rw off;

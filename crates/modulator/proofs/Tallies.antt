@@ -1,17 +1,9 @@
 -- Sums over the streams, and the packets that a fill placed.
-use Rattle.std.proofs.Common.{◌≡◌, ℕ, zero, suc, ◌+◌, List, length, sym, refl, ap, ◌∙◌, add-one, arith, length-append}
+use Rattle.std.proofs.Common.{◌≡◌, ℕ, zero, suc, ◌+◌, List, length, sym, refl, ap, ◌∙◌, arith, length-append}
 use Rattle.feed.specs.Packets.{Packet, Lists}
 use Rattle.modulator.specs.Fills.{Sent, Filled, placed, over_streams}
 use Rattle.modulator.specs.declared.state.Loaded.{Loaded}
 use Rattle.modulator.proofs.Lossless.{placed_rest}
-
-pub over_none : (f : ℕ → ℕ) → over_streams f 0 ≡ 0
-unfolding over_streams
-over_none f = refl
-
-pub over_more : (f : ℕ → ℕ) (n : ℕ) → over_streams f (n + 1) ≡ over_streams f n + f n
-unfolding over_streams
-over_more f n = rw add-one
 
 -- sums of sums
 over_add : (f g h : ℕ → ℕ) → ((r : ℕ) → f r + g r ≡ h r) → (n : ℕ) → over_streams f n + over_streams g n ≡ over_streams h n

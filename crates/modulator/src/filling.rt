@@ -11,29 +11,33 @@ use crate::taking::take_packets;
 use feed::{Feed, PACKET_BYTES, STREAMS};
 use frame_layout::{FRAMES, super_frame_size};
 use plan_formats::Tmcc;
-use slot_plan::Plan;
+use slot_plan::{MOST_SLOTS, Plan};
 use super_frame::write;
 use tmcc_word::word;
 
-// The packets of the largest super-frame have so many bytes: eight frames of 48 slots.
-const MOST_BYTES: usize = 72192;
+// The most packets that a super-frame has.
+const MOST_PACKETS: usize = FRAMES as usize * MOST_SLOTS as usize;
 
 // How many packets wait in all streams.
 fn all_waiting<F: Feed>(feed: &F) -> u32
     ensures { result ≡ over_streams (λ q. length (F.Feed.lists feed.now q)) 8 }
 {
-    let mut waiting = 0;
-    for stream in 0..STREAMS as u8 {
-        waiting += u32::from(feed.waiting(stream));
-    }
-    waiting
+    (0..STREAMS as u8)
+        .map(|stream| u32::from(feed.waiting(stream)))
+        .sum()
 }
 
 impl Loaded {
     // Writes a super-frame of the plan that it has into a buffer of its length, over room for its packets.
-    fn write<F: Feed>(&self, plan: &Plan, feed: &mut F, packets: &mut [u8], out: &mut [u8])
+    fn write<F: Feed>(
+        &self,
+        plan: &Plan,
+        feed: &mut F,
+        packets: &mut [[u8; PACKET_BYTES]],
+        out: &mut [u8],
+    )
         requires kept { Keeps self.now.kept.slots self.now.kept.packed plan.now.fields }
-        requires room { length packets.old ≡ 188 * (8 * plan.now.fields.slots) }
+        requires room { length packets.old ≡ 8 * plan.now.fields.slots }
         requires size { length out.old ≡ super_size plan.now.fields.slots }
         ensures { (sent : Sent) × (sent.plan ≡ plan.now.fields) × Filled self.now (F.Feed.lists feed.old) sent out.new (F.Feed.lists feed.new) }
     {
@@ -42,7 +46,7 @@ impl Loaded {
             order: self.order,
             plan: *plan,
         });
-        let _ = write(plan, &tmcc, packets, out);
+        let _ = write(plan, &tmcc, packets.as_flattened(), out);
     }
 
     // Fills one super-frame with the feed's packets, and counts them.
@@ -57,9 +61,10 @@ impl Loaded {
             return Err(ModulatorFault::Length);
         }
         let before = all_waiting(feed);
-        let mut room = [0; MOST_BYTES];
-        let bytes = PACKET_BYTES * (FRAMES as usize * slots as usize);
-        self.write(&plan, feed, &mut room[0..bytes], out);
+        // room for the largest super-frame, since no memory is allocated; this plan's packets take its first part
+        let mut room = [[0; PACKET_BYTES]; MOST_PACKETS];
+        let packets = &mut room[..FRAMES as usize * slots as usize];
+        self.write(&plan, feed, packets, out);
         let placed = before - all_waiting(feed);
         let active = u32::from(FRAMES) * u32::from(plan.active_slots());
         Ok(Tally {

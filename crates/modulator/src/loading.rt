@@ -12,7 +12,7 @@ impl Bare {
     pub fn new(slots: u8) -> Result<Bare, ModulatorFault>
         ensures { Made slots result }
     {
-        if slots < 1 || slots > MOST_SLOTS {
+        if !(1..=MOST_SLOTS).contains(&slots) {
             return Err(ModulatorFault::Slots);
         }
         Ok(Bare { slots })

@@ -2,16 +2,14 @@
 ghost use Rattle.std.specs.Prelude.{◌≡◌, ℕ, length, drop, if◌then◌else◌, nat_eq, slice_index_or};
 ghost use Rattle.modulator.specs.Carried.{null_packet};
 
-use feed::{Feed, PACKET_BYTES};
+use feed::{Feed, PACKET_BYTES, SYNC_BYTE};
 
 // The packet that an active slot carries where none waits.
 pub fn null_packet() -> [u8; PACKET_BYTES]
     ensures { result ≡ null_packet }
 {
     let mut packet = [0xFF; PACKET_BYTES];
-    packet[0] = 0x47;
-    packet[1] = 0x1F;
-    packet[3] = 0x10;
+    packet[..4].copy_from_slice(&[SYNC_BYTE, 0x1F, 0xFF, 0x10]);
     packet
 }
 

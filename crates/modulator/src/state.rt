@@ -26,7 +26,7 @@ pub struct Unloaded {
 }
 
 // How many packets a super-frame placed, and in how many of its active slots none was placed.
-#[derive(Clone, Copy)]
+#[derive(Clone, Copy, PartialEq, Eq, Debug)]
 pub struct Tally {
     pub placed: u32,
     pub nulls: u32,

@@ -1,4 +1,5 @@
 // What a modulator tells of itself.
+// A method for each of the two states, since a bare one keeps the number of slots and a loaded one has it in its plan.
 ghost use Rattle.std.specs.Prelude.{◌≡◌, ◌≤◌};
 
 use crate::state::{Bare, Loaded};

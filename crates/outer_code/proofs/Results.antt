@@ -6,6 +6,13 @@ use Rattle.outer_code.specs.declared.fault.CodeFault.{CodeFault}
 use Rattle.outer_code.specs.declared.fault.CodeFault.TheVariants.{Length, Bound, Uncorrectable}
 use Rattle.outer_code.specs.Calls.{Answered}
 use Rattle.outer_code.specs.Results.{Finds, Refuses, AtSix, Correction}
+use Rattle.outer_code.specs.Words.{Sought}
+
+-- what a word of the right length is answered, within a right bound
+pub settled : (n : ℕ) (P : ℕ → Type 0) (bound : ℕ) (w : List ℕ) (r : Result (Unit {0}) CodeFault) (after : List ℕ)
+    → length w ≡ n → bound ≤ 8 → Sought P bound w r after → Answered n P bound w r after
+settled n P bound w (Ok _) after l b s = (l, b, s)
+settled n P bound w (Err e) after l b s = rw s.0 ((l, b, s.1), s.2)
 
 finds : (n : ℕ) (P : ℕ → Type 0) (bound : ℕ) (w : List ℕ) (r : Result (Unit {0}) CodeFault) (after : List ℕ)
     → length w ≡ n → bound ≤ 8 → Answered n P bound w r after → Finds P bound w r after

@@ -1,6 +1,8 @@
 -- Coding and correcting a word. Assumes nothing.
-use Rattle.std.specs.Prelude.{◌≡◌, ℕ, ◌-◌, ◌≤◌, Bool, true, false, List, length, take, slice_index}
+use Rattle.std.specs.Prelude.{◌≡◌, ℕ, ◌-◌, ◌≤◌, List, length, take, Ok, Err, Result, slice_index}
 use Rattle.code_theory.specs.Codeword.{Bytes, Codeword, distance}
+use Rattle.outer_code.specs.declared.fault.CodeFault.{CodeFault}
+use Rattle.outer_code.specs.declared.fault.CodeFault.TheVariants.{Uncorrectable}
 
 -- the codeword of so many bytes that has these data: they stand first, and sixteen check bytes stand behind them
 pub record CodedWord (size : ℕ) (content w : List ℕ) : Type 0 where
@@ -34,7 +36,7 @@ pub record Corrected (permitted : ℕ → Type 0) (bound : ℕ) (w after : List 
   pub near : Near permitted bound w after
   pub only : (c : List ℕ) → Near permitted bound w c → c ≡ after
 
--- the one such codeword was found and stands in the word's place, or there is none and the word is as it was
-abbrev pub Sought : (ℕ → Type 0) → ℕ → List ℕ → Bool → List ℕ → Type 0
-Sought permitted bound w true after = Corrected permitted bound w after
-Sought permitted bound w false after = NoneNear permitted bound w × (after ≡ w)
+-- the one such codeword was found and stands in the word's place, or there is none, which is the refusal, and the word is as it was
+abbrev pub Sought : (ℕ → Type 0) → ℕ → List ℕ → Result (Unit {0}) CodeFault → List ℕ → Type 0
+Sought permitted bound w (Ok _) after = Corrected permitted bound w after
+Sought permitted bound w (Err e) after = (e ≡ Uncorrectable) × NoneNear permitted bound w × (after ≡ w)

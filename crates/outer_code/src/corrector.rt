@@ -16,50 +16,44 @@ const LARGEST_BOUND: u8 = 8;
 // Writes over a word the one codeword of its kind that differs from it in at most bound bytes and begins with a permitted byte.
 // Where there is none, and where the length or the bound is wrong, the word stays as it was.
 pub fn correct<K: WordKind>(word: &mut [u8], bound: u8) -> Result<(), CodeFault>
-    ensures { Correction K.WordKind.size K.WordKind.permitted bound word.old result word.new }
+    ensures { Correction K.LENGTH K.permitted bound word.old result word.new }
 {
-    if word.len() != K::word_size() {
+    if word.len() != K::LENGTH {
         return Err(CodeFault::Length);
     }
     if bound > LARGEST_BOUND {
         return Err(CodeFault::Bound);
     }
-    if settle::<K>(word, bound) {
-        Ok(())
-    } else {
-        Err(CodeFault::Uncorrectable)
-    }
+    settle::<K>(word, bound)
 }
 
 // Corrects a word of the right length within a right bound, or tells that it cannot be. A clean word costs one division.
-fn settle<K: WordKind>(word: &mut [u8], bound: u8) -> bool
-    requires size { length word.old ≡ K.WordKind.size }
+fn settle<K: WordKind>(word: &mut [u8], bound: u8) -> Result<(), CodeFault>
+    requires size { length word.old ≡ K.LENGTH }
     requires bound { bound ≤ 8 }
-    ensures { Sought K.WordKind.permitted bound word.old result word.new }
+    ensures { Sought K.permitted bound word.old result word.new }
 {
     let rest = remainder(word);
     if rest == 0 {
-        return K::permits(word[0]);
+        return if K::permits(word[0]) {
+            Ok(())
+        } else {
+            Err(CodeFault::Uncorrectable)
+        };
     }
-    let Some(errors) = errors_of::<K>(word, bound, rest) else {
-        return false;
-    };
+    let errors = errors_of::<K>(word, bound, rest).ok_or(CodeFault::Uncorrectable)?;
     errors.correct(word);
-    true
+    Ok(())
 }
 
 // The errors that lead from a word, by its remainder, to the codeword of its kind within the bound.
 // What is found leads to a codeword, so only the first byte is tested.
 fn errors_of<K: WordKind>(word: &[u8], bound: u8, rest: u128) -> Option<Errors>
-    requires size { length word.now ≡ K.WordKind.size }
+    requires size { length word.now ≡ K.LENGTH }
     requires bound { bound ≤ 8 }
     requires rest { Remainder word.now rest }
-    ensures { MatchOption result (NoneNear K.WordKind.permitted bound word.now) (λ e. Corrected K.WordKind.permitted bound word.now (corrected e.places.count e.places.list e.values word.now)) }
+    ensures { MatchOption result (NoneNear K.permitted bound word.now) (λ e. Corrected K.permitted bound word.now (corrected e.places.count e.places.list e.values word.now)) }
 {
-    let errors = Errors::find(&syndromes_of(rest), word.len(), bound as usize)?;
-    if K::permits(errors.corrected_byte(word, 0)) {
-        Some(errors)
-    } else {
-        None
-    }
+    let found = Errors::find(&syndromes_of(rest), word.len(), usize::from(bound));
+    found.filter(|errors| K::permits(errors.corrected_byte(word, 0)))
 }

@@ -20,21 +20,21 @@ pub enum CodeFault {
 }
 
 impl CodeFault {
-    // The refusal's number at a kind of word.
+    // The refusal's number at a kind of word. A number, since the interface for C answers numbers.
     pub fn number<K: WordKind>(self) -> u8
-        ensures { result ≡ number K.WordKind.refused self }
+        ensures { result ≡ number K.REFUSAL self }
     {
         match self {
             CodeFault::Length => WRONG_LENGTH,
             CodeFault::Bound => WRONG_BOUND,
-            CodeFault::Uncorrectable => K::refusal_number(),
+            CodeFault::Uncorrectable => K::REFUSAL,
         }
     }
 }
 
-// The number that stands for an answer: 0 for a word that is done, else the refusal's.
+// The number that stands for an answer in the interface for C: 0 for a word that is done, else the refusal's.
 pub fn answer_number<K: WordKind>(answer: Result<(), CodeFault>) -> u8
-    ensures { result ≡ answer_number K.WordKind.refused answer }
+    ensures { result ≡ answer_number K.REFUSAL answer }
 {
     match answer {
         Ok(()) => 0,

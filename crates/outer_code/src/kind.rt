@@ -9,35 +9,26 @@ pub trait WordKind {
 
     const DATA_LENGTH: usize;
 
+    // the number of the refusal of a word that cannot be corrected
     const REFUSAL: u8;
 
-    ghost size: { ℕ };
+    ghost LENGTH: { ℕ };
 
-    ghost message: { ℕ };
+    ghost DATA_LENGTH: { ℕ };
+
+    ghost REFUSAL: { ℕ };
 
     // the bytes that a word of this kind may begin with
     ghost permitted: { ℕ → Type 0 };
 
-    // the number of the refusal of a word that cannot be corrected
-    ghost refused: { ℕ };
-
-    fn word_size() -> usize
-        ensures { result ≡ size };
-
-    fn data_size() -> usize
-        ensures { result ≡ message };
-
-    fn refusal_number() -> u8
-        ensures { result ≡ refused };
-
     fn permits(first: u8) -> bool
         ensures { Decides result (permitted first) };
 
-    ghost checks: { size ≡ message + 16 };
+    ghost checks: { LENGTH ≡ DATA_LENGTH + 16 };
 
-    ghost begun: { 1 ≤ message };
+    ghost begun: { 1 ≤ DATA_LENGTH };
 
-    ghost short: { size ≤ 255 };
+    ghost short: { LENGTH ≤ 255 };
 }
 
 // The first byte of a slot word.
@@ -53,31 +44,19 @@ impl WordKind for SlotWord {
 
     const REFUSAL: u8 = 16;
 
-    ghost size = { 204 };
+    ghost LENGTH = { 204 };
 
-    ghost message = { 188 };
+    ghost DATA_LENGTH = { 188 };
+
+    ghost REFUSAL = { 16 };
 
     ghost permitted = { Sync };
-
-    ghost refused = { 16 };
 
     ghost checks = { Prim.search rules };
 
     ghost begun = { Prim.search rules };
 
     ghost short = { Prim.search rules };
-
-    fn word_size() -> usize {
-        Self::LENGTH
-    }
-
-    fn data_size() -> usize {
-        Self::DATA_LENGTH
-    }
-
-    fn refusal_number() -> u8 {
-        Self::REFUSAL
-    }
 
     fn permits(first: u8) -> bool {
         first == SYNC
@@ -94,31 +73,19 @@ impl WordKind for TmccWord {
 
     const REFUSAL: u8 = 14;
 
-    ghost size = { 64 };
+    ghost LENGTH = { 64 };
 
-    ghost message = { 48 };
+    ghost DATA_LENGTH = { 48 };
+
+    ghost REFUSAL = { 14 };
 
     ghost permitted = { Any };
-
-    ghost refused = { 14 };
 
     ghost checks = { Prim.search rules };
 
     ghost begun = { Prim.search rules };
 
     ghost short = { Prim.search rules };
-
-    fn word_size() -> usize {
-        Self::LENGTH
-    }
-
-    fn data_size() -> usize {
-        Self::DATA_LENGTH
-    }
-
-    fn refusal_number() -> u8 {
-        Self::REFUSAL
-    }
 
     fn permits(_first: u8) -> bool {
         true

@@ -1,29 +1,51 @@
--- Eight bytes of a word as one number.
+-- A message in blocks of eight bytes and the bytes behind them, fed into the register.
 -- Assumes nothing.
-use Rattle.std.proofs.Common.{◌≡◌, ℕ, ◌+◌, ◌*◌, ◌<◌, ◌≤◌, List, length, get_or, take, drop, ap, ◌∙◌, add-zero, arith, length-drop, length-take}
-use Rattle.std.specs.Int.Digits.{number_from_digits}
-use Rattle.std.proofs.lemmas.Int.Digits.{number_more}
-use Rattle.std.proofs.lemmas.List.{get_or-drop}
+use Rattle.std.proofs.Common.{◌≡◌, ℕ, zero, suc, ◌+◌, ◌*◌, List, [], ◌∷◌, ◌++◌, length, take, drop, refl, ap, ◌∙◌, append_assoc, append-nil, div-one, arith, take-add}
+use Rattle.std.specs.Int.{from_be_bytes}
+use Rattle.std.specs.List.{concat}
+use Rattle.std.specs.Simd.{first_chunks}
+use Rattle.std.proofs.lemmas.List.Folds.{concat-append}
+use Rattle.std.proofs.lemmas.Nat.{be_bytes_8}
+use mir.Syntax.{w64}
 use Rattle.code_theory.specs.Codeword.{Bytes}
-use Rattle.parity.specs.Remainder.{bytes_of}
-use Rattle.parity.proofs.Byte.{bytes_take}
-use Rattle.parity.proofs.Numbers.{bytes_number}
+use Rattle.parity.specs.Remainder.{bytes_of, shifted, Remainder}
 
-module _ (xs : List ℕ) (at : ℕ) (fits : at + 8 ≤ length xs) where
-  more : (i : ℕ) → i < 8 → number_from_digits 256 (take (i + 1) (drop at xs)) ≡ number_from_digits 256 (take i (drop at xs)) * 256 + get_or xs (at + i) 0
-  more i h =
-      number_more 256 (drop at xs) i (rw (length-drop at xs) (omega arith))
-      ∙ ap (λ (b : ℕ). number_from_digits 256 (take i (drop at xs)) * 256 + b) (get_or-drop at xs i 0)
+-- eight bytes as one number
+pub block_bytes : (bs : List ℕ) (n : ℕ) → length bs ≡ 8 → Bytes bs → n ≡ from_be_bytes w64 bs → bytes_of 8 n ≡ bs
+unfolding bytes_of
+block_bytes bs n long f e = simp div-one (be_bytes_8 bs n long f e)
 
-  pub block_number : (r : ℕ)
-      → r ≡ get_or xs at 0 * 72057594037927936 + get_or xs (at + 1) 0 * 281474976710656 + get_or xs (at + 2) 0 * 1099511627776 + get_or xs (at + 3) 0 * 4294967296 + get_or xs (at + 4) 0 * 16777216 + get_or xs (at + 5) 0 * 65536 + get_or xs (at + 6) 0 * 256 + get_or xs (at + 7) 0
-      → r ≡ number_from_digits 256 (take 8 (drop at xs))
-  block_number r e =
-      omega (arith, more 0 (omega arith), more 1 (omega arith), more 2 (omega arith), more 3 (omega arith), more 4 (omega arith), more 5 (omega arith), more 6 (omega arith), more 7 (omega arith), ap (λ (i : ℕ). get_or xs i 0) (add-zero at))
+-- a number of blocks, joined
+pub joined_blocks : (n : ℕ) (xs : List ℕ) → concat (first_chunks 8 n xs) ≡ take (n * 8) xs
+joined_blocks zero xs = refl
+joined_blocks (suc n) xs =
+    let e : suc n * 8 ≡ 8 + n * 8 = omega arith in
+    ap (λ (ys : List ℕ). take 8 xs ++ ys) (joined_blocks n (drop 8 xs)) ∙ rw (e, take-add 8 (n * 8) xs) refl
 
-  pub block_bytes : Bytes xs → (r : ℕ) → r ≡ number_from_digits 256 (take 8 (drop at xs)) → bytes_of 8 r ≡ take 8 (drop at xs)
-  block_bytes f r e =
-      let size : length (take 8 (drop at xs)) ≡ 8 = simp (length-take, length-drop) (omega arith) in
-      let whole : bytes_of 8 (number_from_digits 256 (take 8 (drop at xs))) ≡ take 8 (drop at xs)
-      = rw size at (bytes_number (take 8 (drop at xs)) (bytes_take 8 (drop at xs) (λ k. rw (get_or-drop at xs k 0) (f (at + k))))) in
-      rw e whole
+-- what was fed in is made of bytes
+bytes_front : (u v : List ℕ) → Bytes (u ++ v) → Bytes u
+bytes_front [] v f k = omega arith
+bytes_front (b ∷ u) v f zero = f 0
+bytes_front (b ∷ u) v f (suc k) = bytes_front u v (λ i. f (suc i)) k
+
+-- the register after a word and these bytes, after these blocks
+abbrev pub Fed : List ℕ → List ℕ → ℕ → Type 0
+Fed w v r = Bytes (w ++ v) → Remainder (shifted 16 (w ++ v)) r
+
+abbrev pub FedBlocks : List (List ℕ) → ℕ → Type 0
+FedBlocks bs r = Fed [] (concat bs) r
+
+-- after one more
+abbrev pub Feeds : List ℕ → ℕ → ℕ → Type 0
+Feeds v r s = (w : List ℕ) → Bytes w → Remainder (shifted 16 w) r → Remainder (shifted 16 (w ++ v)) s
+
+pub fed_more : (w u v : List ℕ) (r s : ℕ) → Fed w u r → Feeds v r s → Fed w (u ++ v) s
+fed_more w u v r s before step f =
+    let g : Bytes ((w ++ u) ++ v) = rw append_assoc f in
+    let front = bytes_front (w ++ u) v g in
+    rw append_assoc at (step (w ++ u) front (before front))
+
+pub block_more : (bs : List (List ℕ)) (b : List ℕ) (r s : ℕ) → FedBlocks bs r → Feeds b r s → FedBlocks (bs ++ (b ∷ [])) s
+block_more bs b r s before step =
+    let e : concat (bs ++ (b ∷ [])) ≡ concat bs ++ b = concat-append bs (b ∷ []) ∙ ap (λ (ys : List ℕ). concat bs ++ ys) (append-nil b) in
+    rw e (fed_more [] (concat bs) b r s before step)

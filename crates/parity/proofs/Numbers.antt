@@ -1,6 +1,6 @@
 -- The value of a number's bytes: what exclusive or, a shift and a division do to it.
 -- Assumes nothing.
-use Rattle.std.proofs.Common.{◌≡◌, ℕ, zero, suc, ◌+◌, ◌-◌, ◌*◌, ◌/◌, ◌%◌, ◌^◌, ◌<◌, ◌≤◌, List, [], ◌∷◌, ◌++◌, length, sym, refl, ap, ◌∙◌, ap₂, append_assoc, append-nil, add-zero, add-suc, mod-eq_of_lt, mul_assoc, mul_comm, add_comm, suc-add, pow-suc, zero-add, mul-one, mul-suc, div-one, add-one, arith, pow-add}
+use Rattle.std.proofs.Common.{◌≡◌, ℕ, zero, suc, ◌+◌, ◌-◌, ◌*◌, ◌/◌, ◌%◌, ◌^◌, ◌<◌, ◌≤◌, List, [], ◌∷◌, ◌++◌, length, fold, sym, refl, ap, ◌∙◌, ap₂, append_assoc, append-nil, add-zero, add-suc, mod-eq_of_lt, mul_assoc, mul_comm, add_comm, suc-add, pow-suc, zero-add, mul-one, mul-suc, div-one, add-one, arith, pow-add}
 use native.Mathlib.Nat.{div-div-eq-div-mul, pow-le-pow_right}
 use lib.Arith.{mod-mul, digits_div, digits_mod}
 use lib.Bits.{bit_or, or_shifted}
@@ -142,15 +142,25 @@ number_below k w h f =
     let up : 256 ^ length w ≤ 256 ^ k = pow-le-pow_right (omega arith) h in omega (arith, number_fits w f)
 
 -- one more byte below those of a number of i bytes
-pub byte_after : (n b i : ℕ) → n < 256 ^ i → i < 16 → b < 256 → bit_or (n * 2 ^ 8 % 2 ^ 128) b ≡ n * 256 + b
+byte_after : (n b i : ℕ) → n < 256 ^ i → i < 16 → b < 256 → bit_or (n * 2 ^ 8 % 2 ^ 128) b ≡ n * 256 + b
 byte_after n b i h k l =
     let small : i ≤ 15 = omega arith in
     let up : 256 ^ i ≤ 256 ^ 15 = pow-le-pow_right (omega arith) small in
     let room : n * 2 ^ 8 < 2 ^ 128 = omega arith in
     rw (mod-eq_of_lt room) (or_shifted n 8 b l)
 
-pub byte_after_fits : (n b i : ℕ) → n < 256 ^ i → b < 256 → n * 256 + b < 256 ^ (i + 1)
+byte_after_fits : (n b i : ℕ) → n < 256 ^ i → b < 256 → n * 256 + b < 256 ^ (i + 1)
 byte_after_fits n b i h l = rw (add-one i, pow-suc 256 i) (omega arith)
+
+-- bytes below those of a number, one after the other
+abbrev pub pushed : ℕ → ℕ → ℕ
+pushed n b = bit_or (n * 2 ^ 8 % 2 ^ 128) b
+
+pub pushed_all : (i n : ℕ) (w : List ℕ) → n < 256 ^ i → i + length w ≤ 16 → Bytes w → fold pushed n w ≡ number_from_digits_after 256 n w
+pushed_all i n [] h few f = refl
+pushed_all i n (b ∷ w) h few f =
+    rw (byte_after n b i h (omega arith) (f 0))
+    (pushed_all (i + 1) (n * 256 + b) w (byte_after_fits n b i h (f 0)) (omega arith) (λ k. f (suc k)))
 
 -- a list of at most sixteen bytes, as the bytes of its number
 pub at_number : (w : List ℕ) (x : ℕ) → length w ≤ 16 → Bytes w → value (bytes_of 16 (number_from_digits 256 w)) x ≡ value w x

@@ -1,8 +1,9 @@
 -- Numbers whose bytes are values at the sixteen roots: sums of them, and the rule of the table of terms.
 -- Assumes nothing.
-use Rattle.std.proofs.Common.{◌≡◌, ℕ, zero, suc, ◌+◌, ◌*◌, ◌/◌, ◌%◌, ◌^◌, ◌<◌, min, T, List, [], ◌∷◌, length, get_or, sym, refl, ap, ◌∙◌, add-zero, mul_comm, zero-add, arith}
+use Rattle.std.proofs.Common.{◌≡◌, ℕ, zero, suc, ◌+◌, ◌-◌, ◌*◌, ◌/◌, ◌%◌, ◌^◌, ◌<◌, ◌≤◌, min, T, List, [], ◌∷◌, length, get_or, drop, sym, refl, ap, ◌∙◌, add-zero, mul_comm, zero-add, arith, length-drop}
 use lib.Bits.{bit_xor}
 use Rattle.std.specs.Int.Digits.{number_from_digits}
+use Rattle.std.proofs.lemmas.List.{get_or-drop, drop-drop}
 use Rattle.field256.specs.Field.{plus, times, power}
 use Rattle.field256.proofs.Laws.{plus_xor, plus_zero, zero_plus, plus_self, plus_mod, plus_times, times_assoc, times_one, times_fits, power_zero, power_suc, power_mul}
 use Rattle.field256.proofs.Sums.{plus_shr, plus_block}
@@ -41,6 +42,18 @@ pub term_more : (p : List ℕ) (place all row j : ℕ) → get_or (bytes_of 16 a
     → get_or (bytes_of 16 (bit_xor all row)) j 0 ≡ polynomial (suc place) p (power 2 j)
 term_more p place all row j a r =
     rw (← plus_xor all row, bytes_plus 16 all row j, a, r) (sym (polynomial_more place p (power 2 j)))
+
+-- what an iterator over the coefficients has left, before and after one of them
+pub one_read : (k : ℕ) (p : List ℕ) (c : ℕ) (rest : List ℕ) → drop k p ≡ c ∷ rest
+    → (get_or p k 0 ≡ c) × (rest ≡ drop (k + 1) p) × (k < length p)
+one_read k p c rest e =
+    let here : get_or p k 0 ≡ c = ap (λ (i : ℕ). get_or p i 0) (sym (add-zero k)) ∙ sym (get_or-drop k p 0 0) ∙ ap (λ (xs : List ℕ). get_or xs 0 0) e in
+    (here, sym (ap (drop 1) e) ∙ drop-drop 1 k p, omega (arith, length-drop k p, ap length e))
+
+-- how many were read, where n of sixteen and m of the list's are left
+pub all_read : (k n l m : ℕ) → n + k ≡ 16 → k ≤ l → m ≡ l - k → (0 < n → m ≡ 0) → k ≡ min l 16
+all_read k zero l m some within left over = omega arith
+all_read k (suc n) l m some within left over = omega (arith, over (omega arith))
 
 -- ---- the table
 
@@ -142,8 +155,11 @@ low_at i (suc k) n (suc j) h =
     let e : suc i + j ≡ i + suc j = omega arith in
     low_at (suc i) k n j (omega arith) ∙ ap (λ (m : ℕ). n / 256 ^ m % 256) e
 
+pub low_read : (m n k : ℕ) (bs : List ℕ) → bs ≡ low_bytes 0 m n → k < m → get_or bs k 0 ≡ n / 256 ^ k % 256
+low_read m n k bs e h = rw e (low_at 0 m n k h ∙ ap (λ (i : ℕ). n / 256 ^ i % 256) (zero-add k))
+
 -- sixteen coefficients that are the bytes of a number
 pub low_values : (n : ℕ) (p : List ℕ) (x : ℕ) → p ≡ low_bytes 0 16 n → polynomial (min (length p) 16) p x ≡ value (bytes_of 16 n) x
 low_values n p x e =
     let size : min (length p) 16 ≡ 16 = omega (arith, ap length e, length_low 0 16 n) in
-    rw size (sym (low_first 16 n p x (λ i l. rw e (low_at 0 16 n i l ∙ ap (λ (m : ℕ). n / 256 ^ m % 256) (zero-add i)))))
+    rw size (sym (low_first 16 n p x (λ i l. low_read 16 n i p e l)))

@@ -34,6 +34,7 @@ pub fn remainder(word: &[u8]) -> u128
 }
 
 // Whether a word, of any length, is a codeword.
+#[tactic(auto, using(crate::proofs::Unique::codeword_at_zero, crate::proofs::Unique::zero_at_codeword))]
 pub fn is_codeword(word: &[u8]) -> bool
     ensures { T result ↔ Codeword word.now }
 {
@@ -60,8 +61,8 @@ pub fn values_at_roots(p: &[u8]) -> [u8; 16]
     ensures { AtRoots p.now result }
 {
     let mut all = 0;
-    for place in 0..p.len().min(CHECKS) {
-        all ^= term(place, p[place]);
+    for (place, c) in p.iter().enumerate().take(CHECKS) {
+        all ^= term(place, *c);
     }
     bytes_of(all)
 }

@@ -535,6 +535,7 @@ fn half_term(place: usize, half: usize, t: usize) -> u128
 }
 
 // What the coefficient c of x^place adds to the values at the sixteen roots, as the bytes of a number.
+#[tactic(auto, using(crate::proofs::Sixteen::two_halves))]
 pub fn term(place: usize, c: u8) -> u128
     requires { place < 16 }
     ensures { (j : ℕ) → j < 16 → slice_index (bytes_of 16 result) j ≡ times c (power (power 2 j) place) }

@@ -1,2 +1,3 @@
 pub mod Patterns
+pub mod Numbers
 pub mod Pending

@@ -13,8 +13,7 @@ impl PatternFeed {
         ensures { (r : ℕ) → pending result r ≡ whole counts r }
     {
         PatternFeed {
-            next: [0; STREAMS],
-            counts,
+            left: counts.map(|count| 0..count),
         }
     }
 }
@@ -23,21 +22,19 @@ impl Feed for PatternFeed {
     ghost lists = { pending };
 
     fn waiting(&self, stream: u8) -> u16 {
-        let index = stream as usize;
-        if index >= STREAMS {
-            return 0;
-        }
-        self.counts[index] - self.next[index]
+        self.left
+            .get(stream as usize)
+            .map_or(0, |numbers| numbers.end - numbers.start)
     }
 
     fn take(&mut self, stream: u8, to: &mut [u8; PACKET_BYTES]) -> bool {
         if self.waiting(stream) == 0 {
             return false;
         }
-        let index = stream as usize;
-        let number = self.next[index];
+        let Some(number) = self.left[stream as usize].next() else {
+            unreachable()
+        };
         packet::write_packet(stream, number, to);
-        self.next[index] = number + 1;
         true
     }
 }

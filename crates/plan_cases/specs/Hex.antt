@@ -1,19 +1,13 @@
--- Bytes written as hexadecimal digits. Assumes nothing.
-use Rattle.std.specs.Prelude.{◌≡◌, ℕ, ◌+◌, ◌*◌, ◌<◌, ◌≤◌, ◌⊎◌, List, length, slice_index}
+-- Bytes written as hexadecimal digits with small letters. Assumes nothing.
+use Rattle.std.specs.Prelude.{◌≡◌, ℕ, ◌<◌, ◌≤◌, List, length, slice_index}
+use Rattle.hexadecimal.specs.Hex.{Hex, unhexed}
 
--- the character is the digit of the value: 0 to 9, or a small a to f
-abbrev pub Digit : ℕ → ℕ → Type 0
-Digit c value = ((48 ≤ c) × (c ≤ 57) × (48 + value ≡ c)) ⊎ ((97 ≤ c) × (c ≤ 102) × (87 + value ≡ c))
+-- no capital letter is in the text
+abbrev pub Small : List ℕ → Type 0
+Small text = (k : ℕ) → k < length text → 65 ≤ slice_index text k → slice_index text k ≤ 90 → ⊥
 
--- two digits of a byte, the high one first
-pub record Pair (high low byte : ℕ) : Type 0 where
-  pub upper : ℕ
-  pub lower : ℕ
-  pub high_is : Digit high upper
-  pub low_is : Digit low lower
-  pub byte_is : byte ≡ upper * 16 + lower
-
--- the text has two digits for each byte
+-- the text has two digits for each byte, the high one first: 0 to 9, and small a to f
 pub record Spells (text bytes : List ℕ) : Type 0 where
-  pub size : length text ≡ 2 * length bytes
-  pub pairs : (k : ℕ) → k < length bytes → Pair (slice_index text (2 * k)) (slice_index text (2 * k + 1)) (slice_index bytes k)
+  pub small : Small text
+  pub hex : Hex text
+  pub bytes_are : bytes ≡ unhexed text

@@ -5,7 +5,7 @@ ghost use Rattle.plan_cases.specs.Verdicts.{HoldsOf};
 ghost use Rattle.plan_formats.specs.Formats.{PlanFile};
 
 use crate::hex::bytes;
-use crate::verdict::{Verdict, expected, of_file};
+use crate::verdict::{Refusal, Verdict, expected};
 use plan_formats::{KeptPlan, read_plan, write_plan};
 use slot_plan::Plan;
 use std::alloc::{AllocError, Global};
@@ -17,7 +17,7 @@ fn file_bytes(heap: Global, text: &str) -> Result<Option<Vec<u8>>, AllocError>
     if text == "-" {
         return Ok(Some(Vec::new(heap)));
     }
-    bytes(heap, text.as_bytes())
+    bytes(heap, text)
 }
 
 // Whether a plan is written as this file.
@@ -40,9 +40,10 @@ fn is_kept(heap: Global, plan: &Plan, file: &[u8]) -> Result<bool, AllocError>
 fn agrees(heap: Global, file: &[u8], verdict: Verdict) -> Result<bool, AllocError>
     ensures { IfOk result (λ agreed. agreed ≡ true → HoldsOf file.now verdict) }
 {
-    match read_plan(file) {
-        Ok(plan) => Ok(verdict == Verdict::Good && is_kept(heap, &plan, file)?),
-        Err(fault) => Ok(verdict == of_file(fault)),
+    match (read_plan(file), verdict) {
+        (Ok(plan), Ok(())) => is_kept(heap, &plan, file),
+        (Err(fault), Err(refusal)) => Ok(Refusal::from(fault) == refusal),
+        _ => Ok(false),
     }
 }
 

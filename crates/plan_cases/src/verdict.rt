@@ -1,26 +1,51 @@
 // What is said of a plan file or of TMCC data, by the library and by a case.
 ghost use Rattle.std.specs.Prelude.{◌≡◌, IfSome};
-ghost use Rattle.plan_cases.specs.Verdicts.{plan_verdict, file_verdict, told, ToldPlace};
+ghost use Rattle.plan_cases.specs.Verdicts.{plan_refusal, file_refusal, told, ToldPlace};
 
 use plan_formats::FileFault;
 use slot_plan::PlanFault;
 
+// A refusal: its number, and the line or the slot at fault, where it is a single one.
 #[derive(Clone, Copy, PartialEq, Eq, Debug)]
-pub(crate) enum Verdict {
-    Good,
-    // the refusal's number, and the line or the slot at fault
-    Refused(u8, u8),
+pub(crate) struct Refusal {
+    pub(crate) number: u8,
+    pub(crate) place: Option<u8>,
 }
+
+impl From<PlanFault> for Refusal {
+    ghost from_gives = { λ fault r. r ≡ plan_refusal fault };
+
+    fn from(fault: PlanFault) -> Refusal {
+        Refusal {
+            number: fault.number(),
+            place: fault.place(),
+        }
+    }
+}
+
+impl From<FileFault> for Refusal {
+    ghost from_gives = { λ fault r. r ≡ file_refusal fault };
+
+    fn from(fault: FileFault) -> Refusal {
+        Refusal {
+            number: fault.number(),
+            place: fault.place(),
+        }
+    }
+}
+
+// Nothing is wrong, or a refusal.
+pub(crate) type Verdict = Result<(), Refusal>;
 
 // The verdict of a case: `ok`, or `refused`, a number and a place.
 pub(crate) fn expected(text: &str) -> Option<Verdict> {
     let mut words = text.split_whitespace();
     match words.next()? {
-        "ok" => Some(Verdict::Good),
+        "ok" => Some(Ok(())),
         "refused" => {
-            let refusal = number(words.next()?)?;
-            let at = place(words.next()?)?;
-            Some(Verdict::Refused(refusal, at))
+            let number = number(words.next()?)?;
+            let place = place(words.next()?)?;
+            Some(Err(Refusal { number, place }))
         }
         _ => None,
     }
@@ -33,27 +58,13 @@ pub(crate) fn number(text: &str) -> Option<u8>
     text.parse::<u8>().ok()
 }
 
-// A line or a slot, `-` where there is none.
-fn place(text: &str) -> Option<u8>
-    ensures { IfSome result (λ at. ToldPlace text.now at) }
+// A line or a slot, which are counted from 1: a case writes `-` or 0 where it is no single one.
+fn place(text: &str) -> Option<Option<u8>>
+    ensures { IfSome result (ToldPlace text.now) }
 {
     if text == "-" {
-        return Some(0);
+        return Some(None);
     }
-    number(text)
-}
-
-pub(crate) fn of_plan(fault: PlanFault) -> Verdict
-    ensures { result ≡ plan_verdict fault }
-{
-    Verdict::Refused(fault.number(), fault.place())
-}
-
-pub(crate) fn of_file(fault: FileFault) -> Verdict
-    ensures { result ≡ file_verdict fault }
-{
-    match fault {
-        FileFault::Rule(rule) => of_plan(rule),
-        _ => Verdict::Refused(fault.number(), 0),
-    }
+    let at = number(text)?;
+    Some((at != 0).then_some(at))
 }

@@ -1,5 +1,6 @@
 -- What was written reads back. Assumes nothing.
 use Rattle.std.proofs.Common.{ℕ, ◌^◌, ◌<◌, ◌≤◌, List, [], ◌∷◌, take, Ok, Err, sym, ◌∙◌, subst, arith}
+use Rattle.slot_plan.specs.Layout.{words, counts}
 use Rattle.slot_plan.specs.Rules.{Valid, Passes}
 use Rattle.slot_plan.specs.Faults.{First, number, rank}
 use Rattle.slot_plan.specs.declared.fault.PlanFault.{PlanFault}
@@ -49,7 +50,7 @@ ends_fit : (w : Widths) (f : Fields) → Fit (body w f) → (f.control < 2 ^ w.c
 unfolding body Fit
 ends_fit w f fit =
     let last = fit_right (numbers 16 f.ts_ids) ((w.control, f.control) ∷ (w.expanded, f.expanded) ∷ [])
-    (fit_right (numbers w.stream (take w.streams f.streams)) _ (fit_right (lines w.word w.count f.words f.counts) _ fit)) in
+    (fit_right (numbers w.stream (take w.streams f.streams)) _ (fit_right (lines w.word w.count (words f) (counts f)) _ fit)) in
     (last.0, last.1.0)
 
 -- TMCC data for a frame that there is break rule 4, 5 or 6

@@ -4,8 +4,9 @@ use Rattle.slot_plan.specs.declared.fields.Fields.{Fields}
 use Rattle.plan_formats.specs.Bits.{Field, bit, front, joined, width, Fit, Holds}
 use Rattle.plan_formats.specs.Body.{body, body_width, Run}
 use Rattle.plan_formats.specs.Faults.{FilePasses}
-use Rattle.plan_formats.specs.Formats.{Bytes, file_widths, tmcc_widths, file_fields, tmcc_fields}
+use Rattle.plan_formats.specs.Formats.{Bytes, file_widths, file_fields}
 use Rattle.plan_formats.specs.declared.fault.FileFault.TheVariants.{Mark, Version}
+pub use Rattle.plan_formats.proofs.Joins.{front_none}
 use Rattle.plan_formats.proofs.Joins.{run_append}
 use Rattle.plan_formats.proofs.Steps.{front_more}
 use Rattle.plan_formats.proofs.Unique.{eight}
@@ -33,10 +34,6 @@ front_byte b k h =
     let i : front b (k * 8 + 7) ≡ front b (k * 8 + 6) * 2 + x / 2 % 2 = same (k * 8 + 7) (k * 8 + 6 + 1) (omega arith) ∙ at 6 (omega arith) in
     let j : front b (k * 8 + 8) ≡ front b (k * 8 + 7) * 2 + x / 1 % 2 = same (k * 8 + 8) (k * 8 + 7 + 1) (omega arith) ∙ at 7 (omega arith) in
     omega (arith, a, c, d, e, f, g, i, j, eight x h)
-
-pub front_none : (b : List ℕ) → front b 0 ≡ 0
-unfolding front
-front_none b = refl
 
 -- mark, version and number of slots
 pub head_run :
@@ -76,12 +73,3 @@ unfolding file_fields
 file_run b f y head rest len =
     holds_from_run b (file_fields f) (48 + body_width (file_widths f.slots))
     (run_append ((24, 0x534C50) ∷ (16, 1) ∷ (8, f.slots) ∷ []) (body (file_widths f.slots) f) head rest) (omega (arith, len))
-
--- the whole of TMCC data, where y is the number in the order of change
-pub tmcc_run :
-    (b : List ℕ) (order : ℕ) (f : Fields) (y : ℕ) → Run 0 0 ((5, order) ∷ []) y 5 →
-    Run y 5 (body tmcc_widths f) (front b (5 + body_width tmcc_widths)) (5 + body_width tmcc_widths) →
-    length b ≡ 48 → Holds b (tmcc_fields order f)
-unfolding tmcc_fields
-tmcc_run b order f y head rest len =
-    holds_from_run b (tmcc_fields order f) (5 + body_width tmcc_widths) (run_append ((5, order) ∷ []) (body tmcc_widths f) head rest) (omega (arith, len))

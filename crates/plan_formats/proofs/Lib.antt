@@ -3,6 +3,7 @@ pub mod Masks
 pub mod Fronts
 pub mod Joins
 pub mod Placed
+pub mod Lines
 pub mod Reading
 pub mod Writing
 pub mod Unique

@@ -1,6 +1,15 @@
 -- Places of numbers of one width, one after the other. Assumes nothing.
-use Rattle.std.proofs.Common.{◌≡◌, ℕ, ◌+◌, ◌*◌, ◌^◌, ◌<◌, ◌≤◌, sym, subst, inl, inr, mul-le-mul_left, mul-suc, add-one, arith, pow_mono}
+use Rattle.std.proofs.Common.{◌≡◌, ℕ, ◌+◌, ◌*◌, ◌^◌, ◌<◌, ◌≤◌, List, length, take, sym, ap, ◌∙◌, subst, inl, inr, mul-le-mul_left, mul-suc, add-one, arith, pow_mono}
+use Rattle.std.proofs.lemmas.List.{length-take-le}
 use Rattle.std.proofs.lemmas.Bool.{cases_lt}
+use Rattle.plan_formats.specs.Body.{numbers, Run}
+use Rattle.plan_formats.proofs.Joins.{width_numbers}
+
+-- where i numbers end
+pub numbers_place :
+    {x from y to : ℕ} (w : ℕ) (xs : List ℕ) (i : ℕ) → Run x from (numbers w (take i xs)) y to → i ≤ length xs → to ≡ from + w * i
+numbers_place {x} {from} {y} {to} w xs i run h =
+    run.place ∙ ap (λ (n : ℕ). from + n) (width_numbers w (take i xs) ∙ ap (λ (n : ℕ). w * n) (length-take-le i xs h))
 
 pub place_more : (start width i place : ℕ) → place ≡ start + width * i → place + width ≡ start + width * (i + 1)
 place_more start width i place e =

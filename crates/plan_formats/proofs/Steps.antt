@@ -1,5 +1,5 @@
 -- A number read or written bit by bit. Assumes nothing.
-use Rattle.std.proofs.Common.{◌≡◌, ℕ, zero, suc, ◌+◌, ◌*◌, ◌/◌, ◌%◌, ◌^◌, ◌<◌, eqb, List, sym, refl, ap, ◌∙◌, mul_assoc, mul_comm, add-one, arith}
+use Rattle.std.proofs.Common.{◌≡◌, ℕ, zero, suc, ◌+◌, ◌*◌, ◌/◌, ◌%◌, ◌^◌, ◌<◌, Bool, true, false, eqb, List, sym, refl, ap, ◌∙◌, mul_assoc, mul_comm, add-one, arith}
 use lib.Bits.{bit_and, bit_or}
 use mir.Val.{bool_byte}
 use Rattle.std.proofs.lemmas.Nat.{mod_below, pow-add, shr-shr, div-add-mod', shl_whole, or_shifted, and_mask, div_below}
@@ -14,6 +14,10 @@ front_more bytes n = ap (front bytes) (add-one n)
 
 pub double_pow : (k : ℕ) → 2 ^ (k + 1) ≡ 2 * 2 ^ k
 double_pow k = pow-add 2 k 1 ∙ mul_comm (2 ^ k) 2
+
+pub bool_small : (b : Bool) → bool_byte b < 2 ^ 1
+bool_small true = omega arith
+bool_small false = omega arith
 
 below_two : (y : ℕ) → y < 2 → bool_byte (eqb y 1) ≡ y
 below_two zero h = refl

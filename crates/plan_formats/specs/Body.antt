@@ -1,5 +1,6 @@
 -- What the plan file and the TMCC data have in common: the numbers of a plan, joined without gaps. Assumes nothing.
 use Rattle.std.specs.Prelude.{◌≡◌, ℕ, ◌+◌, ◌*◌, ◌^◌, ◌<◌, ◌≤◌, List, [], ◌∷◌, ◌++◌, take, slice_index}
+use Rattle.slot_plan.specs.Layout.{words, counts}
 use Rattle.slot_plan.specs.declared.fields.Fields.{Fields}
 use Rattle.plan_formats.specs.Bits.{Field, joined, width, Fit}
 use Rattle.plan_formats.specs.declared.body.Widths.{Widths}
@@ -18,7 +19,7 @@ lines w c words counts =
 -- the lines, the stream numbers that the format has room for, the eight TS_IDs of 16 bits, the control bits and the expanded bits
 unfoldable pub body : Widths → Fields → List Field
 body w f =
-    lines w.word w.count f.words f.counts ++ (numbers w.stream (take w.streams f.streams)
+    lines w.word w.count (words f) (counts f) ++ (numbers w.stream (take w.streams f.streams)
     ++ (numbers 16 f.ts_ids ++ ((w.control, f.control) ∷ (w.expanded, f.expanded) ∷ [])))
 
 -- how many bits that takes
@@ -32,8 +33,8 @@ Narrow w =
 
 -- where a format gives numbers fewer bits than a plan holds them in, they fit all the same
 pub record Small (w : Widths) (f : Fields) : Type 0 where
-  pub words : w.word < 8 → (k : ℕ) → slice_index f.words k < 2 ^ w.word
-  pub counts : w.count < 8 → (k : ℕ) → slice_index f.counts k < 2 ^ w.count
+  pub words : w.word < 8 → (k : ℕ) → slice_index (words f) k < 2 ^ w.word
+  pub counts : w.count < 8 → (k : ℕ) → slice_index (counts f) k < 2 ^ w.count
   pub streams : w.stream < 8 → (k : ℕ) → k < w.streams → slice_index f.streams k < 2 ^ w.stream
   pub control : w.control < 8 → f.control < 2 ^ w.control
   pub expanded : w.expanded < 64 → f.expanded < 2 ^ w.expanded

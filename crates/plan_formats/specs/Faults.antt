@@ -1,5 +1,5 @@
 -- The refusals of a plan file: their numbers, and their ranks. Assumes nothing.
-use Rattle.std.specs.Prelude.{◌≡◌, ℕ, ◌+◌, ◌*◌, ◌≤◌, List, length, slice_index}
+use Rattle.std.specs.Prelude.{◌≡◌, ℕ, ◌+◌, ◌*◌, ◌≤◌, List, length, slice_index, Option, None, unwrap_or}
 use Rattle.slot_plan.specs.Faults as plan
 use Rattle.slot_plan.specs.Rules.{Passes}
 use Rattle.slot_plan.specs.declared.fields.Fields.{Fields}
@@ -13,12 +13,16 @@ file_number Version = 2
 file_number Size = 3
 file_number (Rule fault) = plan.number fault
 
+-- the line or the slot at fault, if it is a single one
+abbrev pub file_at_fault : FileFault → Option ℕ
+file_at_fault Mark = None
+file_at_fault Version = None
+file_at_fault Size = None
+file_at_fault (Rule fault) = plan.at_fault fault
+
 -- the line or the slot at fault, 0 where it is no single one
 abbrev pub file_place : FileFault → ℕ
-file_place Mark = 0
-file_place Version = 0
-file_place Size = 0
-file_place (Rule fault) = plan.place fault
+file_place fault = unwrap_or (file_at_fault fault) 0
 
 -- the rank of a check: checks go by number, and those of the plan itself come last, by their own ranks
 abbrev pub file_rank : FileFault → ℕ

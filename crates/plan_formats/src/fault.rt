@@ -1,10 +1,11 @@
 // Why bytes are no plan file.
 ghost use Rattle.std.specs.Prelude.{◌≡◌};
-ghost use Rattle.plan_formats.specs.Faults.{file_number, file_place};
+ghost use Rattle.plan_formats.specs.Faults.{file_number, file_at_fault};
 ghost use Rattle.plan_formats.specs.declared.fault.FileFault.TheVariants.{Rule};
 
 use slot_plan::PlanFault;
 
+// The first check that a file fails.
 #[derive(Clone, Copy, PartialEq, Eq, Debug)]
 pub enum FileFault {
     // shorter than a head, or not marked as a plan file
@@ -26,7 +27,7 @@ impl From<PlanFault> for FileFault {
 }
 
 impl FileFault {
-    // The refusal's number.
+    // The refusal's number, as programs print it and callers from C get it.
     pub fn number(self) -> u8
         ensures { result ≡ file_number self }
     {
@@ -38,13 +39,13 @@ impl FileFault {
         }
     }
 
-    // The line or the slot at fault, or 0 where the fault is of no single one.
-    pub fn place(self) -> u8
-        ensures { result ≡ file_place self }
+    // The line or the slot at fault, where the fault is of a single one.
+    pub fn place(self) -> Option<u8>
+        ensures { result ≡ file_at_fault self }
     {
         match self {
             FileFault::Rule(fault) => fault.place(),
-            _ => 0,
+            _ => None,
         }
     }
 }

@@ -4,14 +4,15 @@ ghost use Rattle.std.specs.Prelude.{◌≡◌, ◌+◌, ◌%◌, ◌<◌, ◌≤
 // The first number that five bits cannot hold.
 const ORDERS: u8 = 32;
 
-#[derive(Clone, Copy)]
+// One of the 32 orders of change.
+#[derive(Clone, Copy, PartialEq, Eq, Debug)]
 pub struct Order {
     value: u8,
     ghost fits: { value < 32 },
 }
 
 impl Order {
-    // The order of change with this number, which is 0 to 31.
+    // The order of change with this number, which is 0 to 31: an Option as of NonZeroU8::new, since there is no more to say of another.
     pub fn new(value: u8) -> Option<Order>
         ensures { MatchOption result (32 ≤ value) (λ o. o.value ≡ value) }
     {
@@ -38,6 +39,7 @@ impl Order {
         }
     }
 
+    // Its number.
     pub fn value(self) -> u8
         ensures value { result ≡ self.value }
         ensures bound { result < 32 }

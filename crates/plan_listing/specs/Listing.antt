@@ -1,5 +1,5 @@
 -- The listing of a plan file: a text in lines. Assumes nothing.
-use Rattle.std.specs.Prelude.{◌≡◌, ℕ, zero, suc, cond, ◌⊎◌, List, [], ◌∷◌, ◌++◌, codes, decimal, ◌==◌}
+use Rattle.std.specs.Prelude.{◌≡◌, ℕ, zero, suc, cond, ◌⊎◌, List, [], ◌∷◌, ◌++◌, codes, decimal, ◌==◌, ◌≤◌, Result, IfOk, String, string_bytes}
 use Rattle.slot_plan.specs.Faults.{First}
 use Rattle.slot_plan.specs.Layout.{word, count, stream, active, mode_word}
 use Rattle.slot_plan.specs.Rules.{unused, Valid}
@@ -34,23 +34,31 @@ abbrev pub slot_line : ℕ → ℕ → ℕ → Role → List ℕ
 slot_line slot word stream role =
     line (codes "S") (decimal slot ∷ decimal word ∷ decimal stream ∷ role_text role ∷ [])
 
+-- the texts that are told of the numbers 1 to n, one after the other
+unfoldable pub texts_to : (ℕ → List ℕ) → ℕ → List ℕ
+texts_to told zero = []
+texts_to told (suc n) = texts_to told n ++ told (suc n)
+
+-- At each number from 1 to last, what is given, if anything, is the text that is told.
+abbrev pub Tells : {Z E : Type 0} → (ℕ → Result (String Z) E → Type 0) → (ℕ → List ℕ) → ℕ → Type 0
+Tells {Z} {E} gives told last =
+    (number : ℕ) (r : Result (String Z) E) → 1 ≤ number → number ≤ last → gives number r → IfOk r (λ s. string_bytes s ≡ told number)
+
 -- the line for a line of a plan, if that is used
 abbrev pub line_text : Fields → ℕ → List ℕ
 line_text f number = cond (word f number == unused) [] (mode_line (word f number) (count f number))
 
 -- the lines for the lines 1 to n
-unfoldable pub mode_lines : Fields → ℕ → List ℕ
-mode_lines f zero = []
-mode_lines f (suc n) = mode_lines f n ++ line_text f (suc n)
+abbrev pub mode_lines : Fields → ℕ → List ℕ
+mode_lines f n = texts_to (line_text f) n
 
 -- the line for a slot
 abbrev pub slot_text : Fields → ℕ → List ℕ
 slot_text f slot = slot_line slot (mode_word f slot) (stream f slot) (role_of (active f slot))
 
 -- the lines for the slots 1 to n
-unfoldable pub slot_lines : Fields → ℕ → List ℕ
-slot_lines f zero = []
-slot_lines f (suc n) = slot_lines f n ++ slot_text f (suc n)
+abbrev pub slot_lines : Fields → ℕ → List ℕ
+slot_lines f n = texts_to (slot_text f) n
 
 -- the listing of a plan
 abbrev pub listing : Fields → List ℕ

@@ -17,7 +17,7 @@ pub(crate) fn head_line(heap: Global, slots: u8) -> Result<String, AllocError>
 pub(crate) fn mode_line(heap: Global, line: Line) -> Result<String, AllocError>
     ensures { IfOk result (λ s. string_bytes s ≡ mode_line (word_of line.mode) line.slots) }
 {
-    let word = line.mode.word();
+    let word = u8::from(line.mode);
     let slots = line.slots;
     let active = line.active_slots();
     format!(in heap; "M {word} {slots} {active}\n")
@@ -27,7 +27,7 @@ pub(crate) fn mode_line(heap: Global, line: Line) -> Result<String, AllocError>
 pub(crate) fn slot_line(heap: Global, number: u8, slot: Slot) -> Result<String, AllocError>
     ensures { IfOk result (λ s. string_bytes s ≡ slot_line number (word_of slot.mode) slot.stream slot.role) }
 {
-    let word = slot.mode.word();
+    let word = u8::from(slot.mode);
     let stream = slot.stream;
     let role = role_letter(slot.role);
     format!(in heap; "S {number} {word} {stream} {role}\n")

@@ -1,6 +1,6 @@
 // The listing of a plan file.
-ghost use Rattle.std.specs.Prelude.{◌≡◌, ◌≤◌, ◌++◌, IfOk, string_bytes};
-ghost use Rattle.plan_listing.specs.Listing.{Lists, listing, line_text, mode_lines, slot_text, slot_lines};
+ghost use Rattle.std.specs.Prelude.{◌≡◌, ℕ, ◌≤◌, List, IfOk, string_bytes};
+ghost use Rattle.plan_listing.specs.Listing.{Lists, Tells, texts_to, listing, line_text, mode_lines, slot_text, slot_lines};
 
 use crate::lines::{head_line, mode_line, refusal, slot_line};
 use plan_formats::read_plan;
@@ -18,16 +18,27 @@ fn line_text(heap: Global, plan: &Plan, line: u8) -> Result<String, AllocError>
     }
 }
 
+// The texts that `text` gives for the numbers 1 to `last`, one after the other.
+fn texts_to<F: Fn(u8) -> Result<String, AllocError>>(
+    heap: Global,
+    last: u8,
+    text: F,
+) -> Result<String, AllocError>
+    requires { (number : ℕ) → 1 ≤ number → number ≤ last → F.pre text number }
+    ensures { IfOk result (λ s. (told : ℕ → List ℕ) → Tells (F.post text) told last → string_bytes s ≡ texts_to told last) }
+{
+    let mut all = String::new(heap);
+    for number in 1..=last {
+        all.push_str(text(number)?.as_str())?;
+    }
+    Ok(all)
+}
+
 // The used lines of a plan.
 fn mode_lines(heap: Global, plan: &Plan) -> Result<String, AllocError>
     ensures { IfOk result (λ s. string_bytes s ≡ mode_lines plan.now.fields 4) }
 {
-    let mut text = String::new(heap);
-    for before in 0..LINES {
-        let line = line_text(heap, plan, before + 1)?;
-        text.push_str(line.as_str())?;
-    }
-    Ok(text)
+    texts_to(heap, LINES, |line| line_text(heap, plan, line))
 }
 
 // The line of the listing for a slot.
@@ -35,22 +46,14 @@ fn slot_text(heap: Global, plan: &Plan, slot: u8) -> Result<String, AllocError>
     requires { (1 ≤ slot) × (slot ≤ plan.now.fields.slots) }
     ensures { IfOk result (λ s. string_bytes s ≡ slot_text plan.now.fields slot) }
 {
-    match plan.slot(slot) {
-        Some(told) => slot_line(heap, slot, told),
-        None => unreachable(),
-    }
+    slot_line(heap, slot, plan.slot(slot).unwrap())
 }
 
 // The slots of a plan.
 fn slot_lines(heap: Global, plan: &Plan) -> Result<String, AllocError>
     ensures { IfOk result (λ s. string_bytes s ≡ slot_lines plan.now.fields plan.now.fields.slots) }
 {
-    let mut text = String::new(heap);
-    for before in 0..plan.slots() {
-        let line = slot_text(heap, plan, before + 1)?;
-        text.push_str(line.as_str())?;
-    }
-    Ok(text)
+    texts_to(heap, plan.slots(), |slot| slot_text(heap, plan, slot))
 }
 
 // The listing of a plan.

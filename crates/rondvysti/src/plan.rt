@@ -1,7 +1,7 @@
 // The check of a slot plan file, answered as a number.
 ghost use Rattle.rondvysti.specs.Answers.{Checked};
 
-use plan_formats::read_plan;
+use plan_formats::{FileFault, read_plan};
 
 // What the check answers for the file of a plan.
 const ACCEPTED: u8 = 0;
@@ -10,8 +10,5 @@ const ACCEPTED: u8 = 0;
 pub fn rondvysti_plan_check(file: &[u8]) -> u8
     ensures { Checked file.now result }
 {
-    match read_plan(file) {
-        Ok(_) => ACCEPTED,
-        Err(fault) => fault.number(),
-    }
+    read_plan(file).map_or_else(FileFault::number, |_| ACCEPTED)
 }

@@ -3,6 +3,7 @@
 
 mod filling;
 mod frames;
+mod refusal;
 mod words;
 
 pub use filling::rondvysti_bench_fill;

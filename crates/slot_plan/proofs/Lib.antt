@@ -1,3 +1,5 @@
+pub mod Numbers
+pub mod Options
 pub mod Units
 pub mod Located
 pub mod Checked

@@ -1,5 +1,5 @@
 -- The refusals of a plan: their numbers, their places, and their ranks. Assumes nothing.
-use Rattle.std.specs.Prelude.{ℕ, ◌+◌, ◌<◌}
+use Rattle.std.specs.Prelude.{ℕ, ◌+◌, ◌<◌, Option, Some, None, unwrap_or}
 use Rattle.slot_plan.specs.declared.fault.PlanFault.{PlanFault}
 use Rattle.slot_plan.specs.declared.fault.PlanFault.TheVariants.{SlotCount, ModeWord, LineCount, CountSum, SlotStream, SpareBits}
 
@@ -11,14 +11,18 @@ number CountSum = 5
 number (SlotStream slot) = 6
 number SpareBits = 7
 
+-- the line or the slot at fault, if it is a single one
+abbrev pub at_fault : PlanFault → Option ℕ
+at_fault SlotCount = None
+at_fault (ModeWord line) = Some line
+at_fault (LineCount line) = Some line
+at_fault CountSum = None
+at_fault (SlotStream slot) = Some slot
+at_fault SpareBits = None
+
 -- the line or the slot at fault, 0 where it is no single one
 abbrev pub place : PlanFault → ℕ
-place SlotCount = 0
-place (ModeWord line) = line
-place (LineCount line) = line
-place CountSum = 0
-place (SlotStream slot) = slot
-place SpareBits = 0
+place fault = unwrap_or (at_fault fault) 0
 
 -- The rank of a check: those of a lower rank come before it. Checks go by number, and under one number by place; the sum of the
 -- counts comes after the four lines.

@@ -17,7 +17,7 @@ impl Fields {
     fn check(&self) -> Result<(), PlanFault>
         ensures { MatchResult result (λ _. Valid self.now) (λ e. First (Passes self.now) rank e) }
     {
-        if self.slots < 1 || self.slots > MOST_SLOTS {
+        if !(1..=MOST_SLOTS).contains(&self.slots) {
             return Err(PlanFault::SlotCount);
         }
         if let Some(line) = self.wrong_mode() {

@@ -1,6 +1,6 @@
 // Why numbers make no plan.
 ghost use Rattle.std.specs.Prelude.{◌≡◌};
-ghost use Rattle.slot_plan.specs.Faults.{number, place};
+ghost use Rattle.slot_plan.specs.Faults.{number, at_fault};
 
 #[derive(Clone, Copy, PartialEq, Eq, Debug)]
 pub enum PlanFault {
@@ -19,7 +19,7 @@ pub enum PlanFault {
 }
 
 impl PlanFault {
-    // The refusal's number.
+    // The refusal's number, as programs print it and calls from C answer it.
     pub fn number(self) -> u8
         ensures { result ≡ number self }
     {
@@ -33,15 +33,14 @@ impl PlanFault {
         }
     }
 
-    // The line or the slot at fault, or 0 where the fault is of no single one.
-    pub fn place(self) -> u8
-        ensures { result ≡ place self }
+    // The line or the slot at fault, where the fault is of a single one.
+    pub fn place(self) -> Option<u8>
+        ensures { result ≡ at_fault self }
     {
         match self {
-            PlanFault::ModeWord(line) => line,
-            PlanFault::LineCount(line) => line,
-            PlanFault::SlotStream(slot) => slot,
-            _ => 0,
+            PlanFault::ModeWord(line) | PlanFault::LineCount(line) => Some(line),
+            PlanFault::SlotStream(slot) => Some(slot),
+            _ => None,
         }
     }
 }

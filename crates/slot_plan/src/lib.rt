@@ -11,7 +11,7 @@ mod slots;
 mod streams;
 
 pub use fault::PlanFault;
-pub use fields::{Fields, LINES, MOST_SLOTS};
-pub use mode::Mode;
+pub use fields::{Fields, LINES, LineNumbers, MOST_SLOTS};
+pub use mode::{Mode, UnknownMode};
 pub use plan::Plan;
 pub use slots::{Line, Role, Slot};

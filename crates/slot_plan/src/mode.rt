@@ -1,6 +1,9 @@
 // The transmission modes.
-ghost use Rattle.std.specs.Prelude.{◌≡◌, ℕ, ◌≤◌, MatchOption, ◌≢◌};
-ghost use Rattle.slot_plan.specs.Modes.{unit, active_in_unit, word_of};
+ghost use Rattle.std.specs.Prelude.{◌≡◌, ◌++◌, Some, codes, decimal};
+ghost use Rattle.slot_plan.specs.Modes.{Decodes, unit, active_in_unit, word_of};
+
+use std::error::Error;
+use std::fmt;
 
 // A modulation and its inner code's rate, highest mode word last.
 #[derive(Clone, Copy, PartialEq, Eq, Debug)]
@@ -14,27 +17,46 @@ pub enum Mode {
     Tc8psk23,
 }
 
-impl Mode {
-    // The mode that has this mode word.
-    pub fn from_word(word: u8) -> Option<Mode>
-        ensures { MatchOption result ((m : Mode) → word_of m ≢ word) (λ m. word_of m ≡ word) }
-    {
+// A mode word that no mode has.
+#[derive(Clone, Copy, PartialEq, Eq, Debug)]
+pub struct UnknownMode(pub u8);
+
+impl fmt::Display for UnknownMode {
+    ghost output = { λ e. Some (codes "no mode has the word " ++ decimal e.0) };
+
+    fn fmt<W: fmt::Write>(&self, f: &mut fmt::Formatter<W>) -> fmt::Result {
+        write!(f, "no mode has the word {}", self.0)
+    }
+}
+
+impl Error for UnknownMode {}
+
+// The mode that has this mode word.
+impl TryFrom<u8> for Mode {
+    type Error = UnknownMode;
+
+    ghost try_from_gives = { Decodes };
+
+    fn try_from(word: u8) -> Result<Mode, UnknownMode> {
         match word {
-            1 => Some(Mode::Bpsk12),
-            2 => Some(Mode::Qpsk12),
-            3 => Some(Mode::Qpsk23),
-            4 => Some(Mode::Qpsk34),
-            5 => Some(Mode::Qpsk56),
-            6 => Some(Mode::Qpsk78),
-            7 => Some(Mode::Tc8psk23),
-            _ => None,
+            1 => Ok(Mode::Bpsk12),
+            2 => Ok(Mode::Qpsk12),
+            3 => Ok(Mode::Qpsk23),
+            4 => Ok(Mode::Qpsk34),
+            5 => Ok(Mode::Qpsk56),
+            6 => Ok(Mode::Qpsk78),
+            7 => Ok(Mode::Tc8psk23),
+            _ => Err(UnknownMode(word)),
         }
     }
+}
 
-    pub fn word(self) -> u8
-        ensures { result ≡ word_of self }
-    {
-        match self {
+// The mode word of a mode.
+impl From<Mode> for u8 {
+    ghost from_gives = { λ m r. r ≡ word_of m };
+
+    fn from(mode: Mode) -> u8 {
+        match mode {
             Mode::Bpsk12 => 1,
             Mode::Qpsk12 => 2,
             Mode::Qpsk23 => 3,
@@ -44,7 +66,9 @@ impl Mode {
             Mode::Tc8psk23 => 7,
         }
     }
+}
 
+impl Mode {
     // How many slots a unit of this mode has.
     pub fn unit(self) -> u8
         ensures { result ≡ unit (word_of self) }

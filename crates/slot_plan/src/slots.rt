@@ -56,14 +56,13 @@ impl Plan {
     pub fn line(&self, line: u8) -> Option<Line>
         ensures { MatchOption result ((line < 1) ⊎ ((4 < line) ⊎ (word self.now.fields line ≡ unused))) (λ l. (1 ≤ line) × (line ≤ 4) × (word_of l.mode ≡ word self.now.fields line) × (l.slots ≡ count self.now.fields line)) }
     {
-        if line < 1 || line > LINES {
+        if !(1..=LINES).contains(&line) {
             return None;
         }
-        let at = line as usize - 1;
-        let mode = Mode::from_word(self.fields.words[at])?;
+        let used = self.fields.line(line);
         Some(Line {
-            mode,
-            slots: self.fields.counts[at],
+            mode: used.mode()?,
+            slots: used.count,
         })
     }
 
@@ -71,11 +70,10 @@ impl Plan {
     pub fn slot(&self, slot: u8) -> Option<Slot>
         ensures { MatchOption result ((slot < 1) ⊎ (self.now.fields.slots < slot)) (λ s. (1 ≤ slot) × (slot ≤ self.now.fields.slots) × Tells self.now.fields slot s) }
     {
-        if slot < 1 || slot > self.slots() {
+        if !(1..=self.slots()).contains(&slot) {
             return None;
         }
-        let (word, _) = self.fields.locate(slot);
-        let mode = Mode::from_word(word)?;
+        let (mode, _) = self.fields.locate(slot)?;
         let role = if self.fields.is_active(slot) {
             Role::Active
         } else {
@@ -92,29 +90,23 @@ impl Plan {
     pub fn active_slots(&self) -> u8
         ensures { result ≡ active_up_to self.now.fields self.now.fields.slots }
     {
-        let mut active = 0;
-        for slot in 1..=self.slots() {
-            active += u8::from(self.fields.is_active(slot));
-        }
-        active
+        (1..=self.slots())
+            .map(|slot| u8::from(self.fields.is_active(slot)))
+            .sum()
     }
 
     // Whether an active slot has this stream.
     pub fn uses(&self, stream: u8) -> bool
         ensures { Decides result (Used self.now.fields stream) }
     {
-        for slot in 1..=self.slots() {
-            if self.fields.is_active(slot) && self.fields.stream(slot) == stream {
-                return true;
-            }
-        }
-        false
+        (1..=self.slots()).any(|slot| self.fields.is_active(slot)
+            && self.fields.stream(slot) == stream)
     }
 
     // The TS_ID of a stream, by its number from 0 to 7.
     pub fn ts_id(&self, stream: u8) -> Option<u16>
         ensures { MatchOption result (7 < stream) (λ id. (stream ≤ 7) × (id ≡ ts_id self.now.fields stream)) }
     {
-        self.fields.ts_ids.get(stream as usize).copied()
+        self.fields.ts_ids.get(usize::from(stream)).copied()
     }
 }

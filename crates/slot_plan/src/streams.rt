@@ -1,41 +1,39 @@
 // The rules of the slots: which are active, and their stream numbers.
-ghost use Rattle.std.specs.Prelude.{◌≡◌, ℕ, ◌-◌, ◌<◌, ◌≤◌, true, false, ◌≢◌, Decides};
-ghost use Rattle.slot_plan.specs.Layout.{word_among, place_among, mode_word, active, stream, ts_id};
+ghost use Rattle.std.specs.Prelude.{◌≡◌, ℕ, ◌-◌, ◌<◌, ◌≤◌, true, false, ◌≢◌, Decides, MatchOption};
+ghost use Rattle.slot_plan.specs.Layout.{counts, word_among, place_among, mode_word, active, stream, ts_id};
+ghost use Rattle.slot_plan.specs.Modes.{word_of};
 ghost use Rattle.slot_plan.specs.Rules.{DummyRule, TsIdRule, StreamRule};
 ghost use Rattle.slot_plan.specs.Searches.{LeastFailing};
 
-use crate::fields::{Fields, LINES, MOST_SLOTS};
+use crate::fields::{Fields, MOST_SLOTS};
 use crate::mode::Mode;
 
 // The highest stream number.
 const LAST_STREAM: u8 = 7;
 
+// Slots go by `u8` numbers, whose range stands in each `requires`: they come from ranges such as `1..slot`, and a type of their own
+// would be made at each turn of those and taken apart at each index.
 impl Fields {
-    // The mode word of a slot, 0 where no line has it, and the slot's place in its line, from 0.
-    pub(crate) fn locate(&self, slot: u8) -> (u8, u8)
-        ensures word { result.0 ≡ mode_word self.now slot }
-        ensures place { result.1 ≡ place_among self.now.counts (slot - 1) }
+    // The mode of the line that has a slot, and the slot's place in that line, from 0.
+    pub(crate) fn locate(&self, slot: u8) -> Option<(Mode, u8)>
+        ensures { MatchOption result ((m : Mode) → word_of m ≢ mode_word self.now slot) (λ found. (word_of found.0 ≡ mode_word self.now slot) × (found.1 ≡ place_among (counts self.now) (slot - 1))) }
     {
         let mut place = slot.saturating_sub(1);
-        for line in 0..LINES as usize {
-            let count = self.counts[line];
-            if place < count {
-                return (self.words[line], place);
+        for line in self.lines.iter() {
+            if place < line.count {
+                return Some((line.mode()?, place));
             }
-            place -= count;
+            place -= line.count;
         }
-        (0, place)
+        None
     }
 
     // Whether a slot is active.
     pub(crate) fn is_active(&self, slot: u8) -> bool
         ensures { result ≡ active self.now slot }
     {
-        let (word, place) = self.locate(slot);
-        match Mode::from_word(word) {
-            Some(mode) => place % mode.unit() < mode.active(),
-            None => false,
-        }
+        self.locate(slot)
+            .is_some_and(|(mode, place)| place % mode.unit() < mode.active())
     }
 
     // The stream number of a slot from 1 to 48.
@@ -46,15 +44,11 @@ impl Fields {
         self.streams[slot as usize - 1]
     }
 
-    // The TS_ID of a stream, 0 for a number that no stream has.
+    // The TS_ID of a stream, and 0 for a number that no stream has, as the rules read it.
     fn ts_id_or_zero(&self, stream: u8) -> u16
         ensures { result ≡ ts_id self.now stream }
     {
-        if stream <= LAST_STREAM {
-            self.ts_ids[stream as usize]
-        } else {
-            0
-        }
+        self.ts_ids.get(usize::from(stream)).copied().unwrap_or(0)
     }
 
     // Whether a slot, if it is a dummy slot, has the stream number of the last active slot before it.
@@ -65,12 +59,9 @@ impl Fields {
         if self.is_active(slot) {
             return true;
         }
-        for last in (1..slot).rev() {
-            if self.is_active(last) {
-                return self.stream(last) == self.stream(slot);
-            }
-        }
-        true
+        (1..slot)
+            .rfind(|earlier| self.is_active(*earlier))
+            .is_none_or(|last| self.stream(last) == self.stream(slot))
     }
 
     // Whether a slot, if it is active, has another TS_ID than each active slot of another stream before it.
@@ -78,16 +69,10 @@ impl Fields {
         requires { (1 ≤ slot) × (slot ≤ 48) }
         ensures { Decides result (TsIdRule self.now slot) }
     {
-        if !self.is_active(slot) {
-            return true;
-        }
         let own = self.stream(slot);
-        for earlier in 1..slot {
-            if self.is_active(earlier) && self.clashes(self.stream(earlier), own) {
-                return false;
-            }
-        }
-        true
+        !self.is_active(slot)
+            || (1..slot).all(|earlier| !self.is_active(earlier)
+                || !self.clashes(self.stream(earlier), own))
     }
 
     // Whether two stream numbers differ and have one TS_ID.
@@ -112,11 +97,6 @@ impl Fields {
     pub(crate) fn wrong_stream(&self) -> Option<u8>
         ensures { LeastFailing (StreamRule self.now) 48 result }
     {
-        for slot in 1..=MOST_SLOTS {
-            if !self.stream_is_right(slot) {
-                return Some(slot);
-            }
-        }
-        None
+        (1..=MOST_SLOTS).find(|slot| !self.stream_is_right(*slot))
     }
 }

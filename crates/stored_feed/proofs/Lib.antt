@@ -1,7 +1,9 @@
+mod Chunks
 mod Scan
+mod Searched
 mod Bounds
 mod Packet
 mod Formed
 mod Count
-mod Zeros
 mod Moved
+mod Begun

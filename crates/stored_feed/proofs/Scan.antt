@@ -1,5 +1,5 @@
 -- The packets of a stream from a record on: what one record adds.
-use Rattle.std.proofs.Common.{◌≡◌, ℕ, suc, ◌+◌, ◌-◌, ◌<◌, ◌≤◌, Bool, true, false, cond, eqb, ◌≢◌, List, [], ◌∷◌, map, filter, refl, ap, ◌∙◌, arith, eq-eqb, ne_eqb}
+use Rattle.std.proofs.Common.{◌≡◌, ℕ, zero, suc, ◌+◌, ◌-◌, ◌<◌, ◌≤◌, Bool, true, false, cond, eqb, ◌≢◌, List, [], ◌∷◌, map, filter, refl, ap, ◌∙◌, arith, eq-eqb, ne_eqb}
 use Rattle.std.specs.List.{range_with_len}
 use Rattle.stored_feed.specs.Files.{records, stream_at, packet_at, packets_from}
 
@@ -34,3 +34,16 @@ module _ (file : List ℕ) (r : ℕ) where
       (first : ℕ) → first < records file → stream_at file first ≢ r →
       packets_from file r first ≡ packets_from file r (first + 1)
   from_past first some other = from_record first false some (ne_eqb (stream_at file first) r other)
+
+  -- from a record on up to another with none of the stream's records between them
+  pub from_over :
+      (n first : ℕ) → first + n ≤ records file → ((k : ℕ) → first ≤ k → k < first + n → stream_at file k ≢ r) →
+      packets_from file r first ≡ packets_from file r (first + n)
+  from_over zero first some others =
+      let here : first ≡ first + 0 = omega arith in
+      ap (λ (k : ℕ). packets_from file r k) here
+  from_over (suc n) first some others =
+      let there : first + 1 + n ≡ first + suc n = omega arith in
+      from_past first (omega arith) (others first (omega arith) (omega arith))
+      ∙ from_over n (first + 1) (omega arith) (λ k from below. others k (omega arith) (omega arith))
+      ∙ ap (λ (k : ℕ). packets_from file r k) there

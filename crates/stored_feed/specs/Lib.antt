@@ -1,4 +1,5 @@
 pub mod Files
+pub mod Cursors
 pub mod Searches
 pub mod Faults
 pub mod Rules

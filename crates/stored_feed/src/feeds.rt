@@ -1,12 +1,11 @@
 // The stored feed as a feed.
-ghost use Rattle.std.specs.Prelude.{◌≡◌, ℕ, [], OnErr};
+ghost use Rattle.std.specs.Prelude.{◌≡◌, ℕ, []};
 ghost use Rattle.stored_feed.specs.Opens.{Opened};
 ghost use Rattle.stored_feed.specs.Pending.{pending};
 
 use crate::fault::PacketFileFault;
 use crate::records;
-use crate::records::RECORD_BYTES;
-use crate::state::StoredFeed;
+use crate::state::{Cursor, StoredFeed};
 use feed::{Feed, PACKET_BYTES, STREAMS};
 
 impl<'a> StoredFeed<'a> {
@@ -16,23 +15,19 @@ impl<'a> StoredFeed<'a> {
     {
         StoredFeed {
             file: &[],
-            cursors: [0; STREAMS],
-            left: [0; STREAMS],
+            cursors: [Cursor { next: 0, left: 0 }; STREAMS],
         }
     }
 
-    // Makes this the feed of the file's packets, or answers the first check that the file does not pass.
-    pub fn open(&mut self, file: &'a [u8]) -> Result<(), PacketFileFault>
-        ensures opened { Opened (pending self.old) file.now result (pending self.new) }
-        ensures kept { OnErr result (self.new ≡ self.old) }
+    // The feed of the file's packets, or the first check that the file does not pass.
+    pub fn open(file: &'a [u8]) -> Result<StoredFeed<'a>, PacketFileFault>
+        ensures { Opened file.now result }
     {
         records::check(file)?;
-        *self = StoredFeed {
+        Ok(StoredFeed {
             file,
-            cursors: [0; STREAMS],
-            left: records::count(file),
-        };
-        Ok(())
+            cursors: records::count(file).map(|left| Cursor { next: 0, left }),
+        })
     }
 }
 
@@ -40,25 +35,24 @@ impl<'a> Feed for StoredFeed<'a> {
     ghost lists = { pending };
 
     fn waiting(&self, stream: u8) -> u16 {
-        let index = stream as usize;
-        if index >= STREAMS {
-            return 0;
-        }
-        self.left[index]
+        self.cursors
+            .get(stream as usize)
+            .map_or(0, |cursor| cursor.left)
     }
 
     fn take(&mut self, stream: u8, to: &mut [u8; PACKET_BYTES]) -> bool {
         if self.waiting(stream) == 0 {
             return false;
         }
-        let index = stream as usize;
-        let Some(found) = records::find(self.file, stream, self.cursors[index]) else {
+        let Cursor { next, left } = self.cursors[stream as usize];
+        let Some(found) = records::find(self.file, stream, next) else {
             unreachable()
         };
-        let start = RECORD_BYTES * found + 1;
-        to.copy_from_slice(&self.file[start..start + PACKET_BYTES]);
-        self.cursors[index] = found + 1;
-        self.left[index] -= 1;
+        to.copy_from_slice(records::packet(self.file, found));
+        self.cursors[stream as usize] = Cursor {
+            next: found + 1,
+            left: left - 1,
+        };
         true
     }
 }

@@ -1,6 +1,6 @@
 // The records of a packet file: their checks, and where they stand.
 ghost use Rattle.std.specs.Prelude.{◌≡◌, ℕ, ◌<◌, length, Decides, MatchResult, slice_index};
-ghost use Rattle.stored_feed.specs.Files.{records, packets_from, RecordRule};
+ghost use Rattle.stored_feed.specs.Files.{records, packet_at, packets_from, RecordRule};
 ghost use Rattle.stored_feed.specs.Rules.{Refused, Valid};
 ghost use Rattle.stored_feed.specs.Searches.{Next};
 
@@ -8,7 +8,7 @@ use crate::fault::PacketFileFault;
 use feed::{PACKET_BYTES, STREAMS, SYNC_BYTE};
 
 // How many bytes a record has: a stream number and a packet.
-pub(crate) const RECORD_BYTES: usize = 1 + PACKET_BYTES;
+const RECORD_BYTES: usize = 1 + PACKET_BYTES;
 
 // The most records that a file may have.
 const MOST_RECORDS: usize = 65_535;
@@ -17,31 +17,35 @@ const MOST_RECORDS: usize = 65_535;
 pub(crate) fn find(file: &[u8], stream: u8, from: usize) -> Option<usize>
     ensures { Next file.now stream from result }
 {
-    for i in from..file.len() / RECORD_BYTES {
-        if file[RECORD_BYTES * i] == stream {
-            return Some(i);
-        }
-    }
-    None
+    let (records, _) = file.as_chunks::<RECORD_BYTES>();
+    (from..records.len()).find(|i| records[*i][0] == stream)
+}
+
+// The packet of a record.
+pub(crate) fn packet(file: &[u8], i: usize) -> &[u8]
+    requires { i < records file.now }
+    ensures value { result.now ≡ packet_at file.now i }
+    ensures size { length result.now ≡ 188 }
+{
+    let (records, _) = file.as_chunks::<RECORD_BYTES>();
+    let record = &records[i][..];
+    &record[1..]
 }
 
 // Whether each record has a stream number and a packet.
 fn are_sound(file: &[u8]) -> bool
     ensures { Decides result ((i : ℕ) → i < records file.now → RecordRule file.now i) }
 {
-    for i in 0..file.len() / RECORD_BYTES {
-        if file[RECORD_BYTES * i] as usize >= STREAMS || file[RECORD_BYTES * i + 1] != SYNC_BYTE {
-            return false;
-        }
-    }
-    true
+    let (records, _) = file.as_chunks::<RECORD_BYTES>();
+    records.iter().all(|[stream, sync, ..]| (*stream as usize) < STREAMS && *sync == SYNC_BYTE)
 }
 
 // The checks in their order, up to the first that fails.
 pub(crate) fn check(file: &[u8]) -> Result<(), PacketFileFault>
     ensures { MatchResult result (λ _. Valid file.now) (λ e. Refused file.now e) }
 {
-    if file.len() % RECORD_BYTES != 0 || file.len() / RECORD_BYTES > MOST_RECORDS {
+    let (records, rest) = file.as_chunks::<RECORD_BYTES>();
+    if !rest.is_empty() || records.len() > MOST_RECORDS {
         return Err(PacketFileFault::Length);
     }
     if !are_sound(file) {
@@ -57,8 +61,9 @@ pub(crate) fn count(file: &[u8]) -> [u16; STREAMS]
     ensures counted { (r : ℕ) → slice_index result r ≡ length (packets_from file.now r 0) }
 {
     let mut counts = [0; STREAMS];
-    for i in 0..file.len() / RECORD_BYTES {
-        counts[file[RECORD_BYTES * i] as usize] += 1;
+    let (records, _) = file.as_chunks::<RECORD_BYTES>();
+    for [stream, ..] in records {
+        counts[*stream as usize] += 1;
     }
     counts
 }

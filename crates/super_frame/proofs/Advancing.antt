@@ -1,14 +1,14 @@
 -- How the writing of a super-frame comes from slot to slot and from frame to frame. Assumes nothing.
-use Rattle.std.proofs.Common.{◌≡◌, ℕ, ◌+◌, ◌-◌, ◌*◌, ◌/◌, ◌%◌, ◌<◌, ◌≤◌, List, [], ◌∷◌, ◌++◌, length, get_or, sym, refl, ap, ◌∙◌, subst, inl, inr, add-zero, mul-le-mul_right, add-mul, one-mul, add-sub_cancel, arith, length-append}
-use Rattle.std.proofs.lemmas.Nat.{div-mul-add, mod-mul-add}
+use Rattle.std.proofs.Common.{◌≡◌, ℕ, ◌+◌, ◌-◌, ◌*◌, ◌<◌, ◌≤◌, List, [], ◌∷◌, ◌++◌, length, get_or, sym, refl, ap, ◌∙◌, subst, inl, inr, add-zero, mul-le-mul_right, add-mul, one-mul, add-sub_cancel, arith, length-append}
 use Rattle.std.proofs.lemmas.List.{get_or_append_left, get_or-append_right}
 use Rattle.std.proofs.lemmas.Bool.{cases_eq}
 use Rattle.slot_plan.specs.declared.fields.Fields.{Fields}
 use Rattle.dispersal.specs.Stages.{At}
 use Rattle.frame_layout.specs.Layout.{dispersed}
-use Rattle.super_frame.specs.Carried.{packet_at, Carries, AllCarried}
+use Rattle.super_frame.specs.Carried.{packet_at, AllCarried}
 use Rattle.super_frame.specs.Parts.{Staged}
-use Rattle.super_frame.specs.Progress.{word_at, Begun}
+use Rattle.super_frame.proofs.Staging.{same_number}
+use Rattle.super_frame.specs.Progress.{word_at, CarriesOnly, Begun}
 
 -- nothing is done yet
 pub begun_none : (p : Fields) (packets : List ℕ) (window : ℕ) (out : List ℕ) → At window 0 → Begun p packets 0 0 window out
@@ -40,15 +40,12 @@ module _ (slots : ℕ) (words : List (List ℕ)) (w : List ℕ) where
 
 -- a frame and a slot are known by the number of slots before
 pub same_frame : (n f s g t : ℕ) → s < n → t < n → g * n + t ≡ f * n + s → (g ≡ f) × (t ≡ s)
-same_frame n f s g t hs ht e = (
-  sym (div-mul-add g n t ht) ∙ ap (λ (k : ℕ). k / n) e ∙ div-mul-add f n s hs,
-  sym (mod-mul-add g n t ht) ∙ ap (λ (k : ℕ). k % n) e ∙ mod-mul-add f n s hs,
-)
+same_frame n f s g t hs ht e = same_number n g t f s ht hs e
 
 -- the word of the next slot is put into its part
 pub begun_more :
     (p : Fields) (packets : List ℕ) (f s window : ℕ) (out w : List ℕ) (window' : ℕ) (out' : List ℕ) → Begun p packets f s window out → s < p.slots →
-    Carries p (s + 1) (packet_at p.slots packets (f + 1) (s + 1)) w → ((n : ℕ) → At window n → At window' (n + 204)) →
+    CarriesOnly p (s + 1) (packet_at p.slots packets (f + 1) (s + 1)) w → ((n : ℕ) → At window n → At window' (n + 204)) →
     ((words : ℕ → ℕ → List ℕ) → words (f + 1) (s + 1) ≡ w → At window ((f * p.slots + s) * 204) →
     Staged p.slots words (f * p.slots + s) out → Staged p.slots words (f * p.slots + s + 1) out') →
     Begun p packets f (s + 1) window' out'
@@ -62,13 +59,13 @@ begun_more p packets f s window out w window' out' b within here moves puts =
           elim (cases_eq (g * p.slots + t) (f * p.slots + s)) [
             | inl same ↦
                 let at = same_frame p.slots f s g t within ht same in
-                subst (λ (v : List ℕ). Carries p (t + 1) (packet_at p.slots packets (g + 1) (t + 1)) v)
+                subst (λ (v : List ℕ). CarriesOnly p (t + 1) (packet_at p.slots packets (g + 1) (t + 1)) v)
                 (sym (word_last p.slots b.words w g t (b.count ∙ sym same)))
-                (subst (λ (x : ℕ). Carries p (t + 1) (packet_at p.slots packets (x + 1) (t + 1)) w) (sym at.0)
-                (subst (λ (x : ℕ). Carries p (x + 1) (packet_at p.slots packets (f + 1) (x + 1)) w) (sym at.1) here))
+                (subst (λ (x : ℕ). CarriesOnly p (t + 1) (packet_at p.slots packets (x + 1) (t + 1)) w) (sym at.0)
+                (subst (λ (x : ℕ). CarriesOnly p (x + 1) (packet_at p.slots packets (f + 1) (x + 1)) w) (sym at.1) here))
             | inr apart ↦
                 let less : g * p.slots + t < f * p.slots + s = omega (arith, before, apart) in
-                subst (λ (v : List ℕ). Carries p (t + 1) (packet_at p.slots packets (g + 1) (t + 1)) v)
+                subst (λ (v : List ℕ). CarriesOnly p (t + 1) (packet_at p.slots packets (g + 1) (t + 1)) v)
                 (sym (get_or_append_left b.words (w ∷ []) [] (g * p.slots + t) (omega (arith, less, b.count))))
                 (b.held g t ht less)
           ];
@@ -98,17 +95,29 @@ module _ (p : Fields) (packets : List ℕ) (window : ℕ) (out : List ℕ) (b : 
   pub all_words : ℕ → ℕ → List ℕ
   all_words = word_at p.slots b.words
 
-  pub all_held : AllCarried p packets all_words
+  held : (f s : ℕ) → 1 ≤ f → f ≤ 8 → 1 ≤ s → s ≤ p.slots → CarriesOnly p s (packet_at p.slots packets f s) (all_words f s)
   unfolding all_words
-  all_held f s f1 f8 s1 sn =
+  held f s f1 f8 s1 sn =
       let frame : f - 1 + 1 ≡ f = omega arith in
       let slot : s - 1 + 1 ≡ s = omega arith in
       let le : f - 1 ≤ 7 = omega arith in
       let before : (f - 1) * p.slots + (s - 1) < 8 * p.slots + 0 = omega (arith, mul-le-mul_right p.slots le) in
-      subst (λ (n : ℕ). Carries p n (packet_at p.slots packets f n) (word_at p.slots b.words f s)) slot
-      (subst (λ (n : ℕ). Carries p (s - 1 + 1) (packet_at p.slots packets n (s - 1 + 1)) (word_at p.slots b.words f s)) frame
+      subst (λ (n : ℕ). CarriesOnly p n (packet_at p.slots packets f n) (word_at p.slots b.words f s)) slot
+      (subst (λ (n : ℕ). CarriesOnly p (s - 1 + 1) (packet_at p.slots packets n (s - 1 + 1)) (word_at p.slots b.words f s)) frame
       (b.held (f - 1) (s - 1) (omega arith) before))
+
+  pub all_held : AllCarried p packets all_words
+  all_held f s f1 f8 s1 sn = (held f s f1 f8 s1 sn).carried
 
   pub all_staged : Staged p.slots all_words (8 * p.slots) out
   unfolding all_words
   all_staged = subst (λ (k : ℕ). Staged p.slots (word_at p.slots b.words) k out) (add-zero (8 * p.slots)) b.staged
+
+  -- and no other words carry the packets
+  pub each_staged : (words : ℕ → ℕ → List ℕ) → AllCarried p packets words → Staged p.slots words (8 * p.slots) out
+  unfolding dispersed
+  each_staged words carried g t c hg ht before hc =
+      let same : words (g + 1) (t + 1) ≡ all_words (g + 1) (t + 1) =
+      (held (g + 1) (t + 1) (omega arith) (omega arith) (omega arith) (omega arith)).only (words (g + 1) (t + 1))
+      (carried (g + 1) (t + 1) (omega arith) (omega arith) (omega arith) (omega arith)) in
+      all_staged g t c hg ht before hc ∙ rw (← same) refl

@@ -1,4 +1,6 @@
 pub mod Apart
+pub mod Numbered
+pub mod Packets
 pub mod Overwritten
 pub mod Rows
 pub mod Blocks

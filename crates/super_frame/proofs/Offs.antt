@@ -1,34 +1,12 @@
--- The sequence taken off one more word, and off the TMCC bytes of one more frame. Assumes nothing.
-use Rattle.std.proofs.Common.{◌≡◌, ℕ, ◌+◌, ◌*◌, ◌<◌, ◌≤◌, List, length, get_or, sym, ap, ◌∙◌, subst, ⊎_elim, arith}
+-- The sequence taken off the TMCC bytes of one more frame. Assumes nothing.
+use Rattle.std.proofs.Common.{◌≡◌, ℕ, ◌+◌, ◌*◌, ◌<◌, List, length, get_or, sym, ap, ◌∙◌, subst, ⊎_elim, arith}
 use lib.Bits.{bit_xor}
 use Rattle.std.proofs.lemmas.Bool.{cases_eq}
 use Rattle.dispersal.specs.Stages.{sequence, added}
 use Rattle.dispersal.proofs.Added.{length_added, get_or_added}
 use Rattle.frame_layout.specs.Layout.{frame_size}
 use Rattle.super_frame.specs.Parts.{Put}
-use Rattle.super_frame.specs.Reads.{Off, OffWords, TmccRead}
-
-module _
-    (n : ℕ) (first before after : List ℕ) (off : Off (204 * n) (204 * n) before after)
-    (left : (place : ℕ) → 204 * n ≤ place → get_or before place 0 ≡ get_or first place 0)
-  where
-    pub off_more : OffWords n first before → OffWords (n + 1) first after
-    off_more earlier =
-        record {
-          begins = λ m h.
-              off.below (204 * m) (omega arith)
-              ∙ ⊎_elim (λ e. left (204 * m) (omega (arith, e))) (λ ne. earlier.begins m (omega (arith, ne))) (cases_eq m n);
-          row = λ m c h hc.
-              ⊎_elim
-              (λ e.
-              subst (λ (k : ℕ). get_or after (204 * k + (c + 1)) 0 ≡ bit_xor (get_or first (204 * k + (c + 1)) 0) (sequence (204 * k + c))) (sym e)
-              (off.here c hc ∙ ap (λ (x : ℕ). bit_xor x (sequence (204 * n + c))) (left (204 * n + (c + 1)) (omega arith))))
-              (λ ne. off.below (204 * m + (c + 1)) (omega (arith, ne)) ∙ earlier.row m c (omega (arith, ne)) hc)
-              (cases_eq m n);
-        }
-
-    pub left_more : (place : ℕ) → 204 * (n + 1) ≤ place → get_or after place 0 ≡ get_or first place 0
-    left_more place h = off.above place (omega arith) ∙ left place (omega arith)
+use Rattle.super_frame.specs.Reads.{TmccRead}
 
 pub tmcc_more :
     (slots n to : ℕ) (stream piece tmcc after : List ℕ) → to ≡ 8 * n → length piece ≡ 8 →

@@ -1,7 +1,7 @@
 -- An element of a list after a write to a part of it. Assumes nothing.
 use Rattle.std.proofs.Common.{◌≡◌, ℕ, ◌+◌, ◌-◌, ◌<◌, ◌≤◌, List, ◌++◌, length, get_or, take, drop, ap, ◌∙◌, arith}
 use borrow.Rule.Slice.PartMut.{put_mid, post_of}
-use Rattle.std.proofs.lemmas.List.{length-append, length-take, length-drop, length-take-le, get_or_append_left, get_or-append_right, get_or-take, get_or-drop}
+use Rattle.std.proofs.lemmas.List.{length-take-le, get_or_append_left, get_or-append_right, get_or-take, get_or-drop}
 
 module _ {X : Type 0} (a k : ℕ) (xs ys : List X) (d : X) (fits : a + k ≤ length xs) (long : length ys ≡ k) where
   pub put_below : (i : ℕ) → i < a → get_or (put_mid a k xs ys) i d ≡ get_or xs i d
@@ -23,7 +23,3 @@ module _ {X : Type 0} (a k : ℕ) (xs ys : List X) (d : X) (fits : a + k ≤ len
       get_or-append_right (take a xs) (ys ++ post_of a k xs) a i d front (omega arith)
       ∙ (get_or-append_right ys (post_of a k xs) k (i - a) d long (omega arith)
       ∙ (get_or-drop k (drop a xs) (i - a - k) d ∙ (get_or-drop a xs (k + (i - a - k)) d ∙ ap (λ (j : ℕ). get_or xs j d) at)))
-
-  pub put_length : length (put_mid a k xs ys) ≡ length xs
-  put_length =
-      simp (length-append, length-take, length-drop) (omega arith)

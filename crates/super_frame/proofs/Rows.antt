@@ -1,4 +1,4 @@
--- One more row of a block gathered from its part, or put back into it. Assumes nothing.
+-- One more row of a block put back into its part. Assumes nothing.
 use Rattle.std.proofs.Common.{◌≡◌, ℕ, ◌+◌, ◌*◌, ◌<◌, ◌≤◌, ◌≢◌, ◌⊎◌, List, get_or, sym, ap, ◌∙◌, inl, inr, ⊎_elim, arith}
 use Rattle.std.proofs.lemmas.Bool.{cases_eq, cases_lt}
 use Rattle.frame_layout.specs.Layout.{frame_size}
@@ -9,19 +9,6 @@ use Rattle.super_frame.proofs.Apart.{frames_apart}
 abbrev pub Rows : {X : Type 0} → X → ℕ → ℕ → List X → List X → ℕ → Type 0
 Rows rest slots slot bytes block n =
     (frame c : ℕ) → frame < n → c < 203 → get_or block (203 * frame + c) rest ≡ get_or bytes (part slots frame slot + c) rest
-
-pub gathered_more :
-    {X : Type 0} (rest : X) (slots slot n at to : ℕ) (bytes block after : List X) → at ≡ part slots n slot → to ≡ 203 * n →
-    Copied rest bytes at block to after → Rows rest slots slot bytes block n → Rows rest slots slot bytes after (n + 1)
-gathered_more rest slots slot n at to bytes block after ea et copied rows frame c hf hc =
-    ⊎_elim
-    (λ e.
-    let p : 203 * frame + c ≡ to + c = omega arith in
-    let q : at + c ≡ part slots frame slot + c =
-    ap (λ (x : ℕ). x + c) ea ∙ ap (λ (f : ℕ). part slots f slot + c) (sym e) in
-    ap (λ (k : ℕ). get_or after k rest) p ∙ (copied.here c hc ∙ ap (λ (k : ℕ). get_or bytes k rest) q))
-    (λ ne. copied.below (203 * frame + c) (omega (arith, ne)) ∙ rows frame c (omega (arith, ne)) hc)
-    (cases_eq frame n)
 
 -- a place of a frame that is not in a part of it lies below or above that part
 apart :

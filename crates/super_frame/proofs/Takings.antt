@@ -1,8 +1,11 @@
 -- One more row put into its word. Assumes nothing.
-use Rattle.std.proofs.Common.{◌≡◌, ℕ, ◌+◌, ◌*◌, ◌<◌, ◌≤◌, ◌≢◌, List, get_or, sym, ap, ◌∙◌, subst, ⊎_elim, arith}
+use Rattle.std.proofs.Common.{◌≡◌, ℕ, ◌+◌, ◌*◌, ◌<◌, ◌≤◌, ◌≢◌, List, [], ◌∷◌, length, get_or, add-one, sym, ap, ◌∙◌, subst, ⊎_elim, arith}
+use borrow.Rule.Slice.PartMut.{put_mid}
+use Rattle.frame_layout.proofs.Chunks.{chunks, chunk_long, chunk_item}
 use Rattle.std.proofs.lemmas.Bool.{cases_eq, cases_lt}
 use Rattle.super_frame.specs.Reads.{words_size, word_place, RowPut, RowsPut, Taken, SameWords}
 use Rattle.super_frame.proofs.Finished.{number_below}
+use Rattle.super_frame.proofs.Overwritten.{put_below, put_in, put_above}
 use Rattle.super_frame.proofs.Staging.{same_number}
 
 pub word_within : (slots frame slot : ℕ) → frame < 8 → slot < slots → word_place slots frame slot + 204 ≤ words_size slots
@@ -56,4 +59,25 @@ taken_left {X} rest first slots slot stream before after same taken =
           subst (λ (k : ℕ). get_or after k rest ≡ first) z
           (same frame 0 hf (omega arith) ∙ (ap (λ (k : ℕ). get_or before k rest) z ∙ taken.begins frame hf));
       row = λ frame c hf hc. same frame (c + 1) hf (omega arith) ∙ taken.row frame c hf hc;
+    }
+
+-- a row of a block that is written behind an element as a word
+pub row_put :
+    {X : Type 0} (rows : List X) → length rows ≡ 1624 → (frame : ℕ) (row : List X) → frame < 8 → row ≡ get_or (chunks 203 rows) frame [] →
+    (rest first : X) (words word : List X) (start k : ℕ) → word ≡ first ∷ row → start + 204 ≤ length words → k ≡ 204 →
+    RowPut rest rows frame first words start (put_mid start k words word)
+row_put rows size frame row below is rest first words word start k w room e =
+    let long : length word ≡ k = ap length w ∙ omega (arith, chunk_long 203 8 rows (omega arith) size frame row below is) in
+    let fits : start + k ≤ length words = omega arith in
+    record {
+      begins =
+          let z : start + 0 ≡ start = omega arith in
+          ap (λ (j : ℕ). get_or (put_mid start k words word) j rest) (sym z)
+          ∙ (put_in start k words word rest fits long 0 (omega arith) ∙ ap (λ ys. get_or ys 0 rest) w);
+      row = λ c h.
+          put_in start k words word rest fits long (c + 1) (omega arith)
+          ∙ (ap (λ ys. get_or ys (c + 1) rest) w
+          ∙ (ap (λ (j : ℕ). get_or (first ∷ row) j rest) (add-one c) ∙ chunk_item 203 8 rows (omega arith) size frame row below is rest c h));
+      below = put_below start k words word rest fits long;
+      above = λ place h. put_above start k words word rest fits long place (omega arith);
     }

@@ -2,11 +2,11 @@
 ghost use Rattle.std.specs.Prelude.{◌≡◌, ℕ, ◌+◌, ◌*◌, ◌<◌, length, slice_index};
 ghost use Rattle.dispersal.specs.Stages.{At};
 ghost use Rattle.frame_layout.specs.Layout.{frame_size, super_size, head_byte};
-ghost use Rattle.super_frame.specs.Parts.{Headed, SameSlot};
+ghost use Rattle.super_frame.specs.Parts.{SameSlot};
 
 use crate::put::{put_dispersed, put_sync};
 use dispersal::Sequence;
-use frame_layout::{FRAMES, W1, frame_size, own_word};
+use frame_layout::{FRAMES, HEAD, W1, frame_size, own_word};
 
 // How many TMCC bytes a head has.
 pub(crate) const TMCC: usize = 8;
@@ -27,21 +27,15 @@ pub(crate) fn frame_start(slots: u8, frame: u8) -> usize
 }
 
 // Writes the head of a frame, counted from 0.
-fn write_head(bytes: &mut [u8], slots: u8, frame: u8, tmcc: &[u8; 64], sequence: &mut Sequence)
-    requires { (length bytes.old ≡ super_size slots) × (frame < 8) }
-    ensures head { At sequence.old.window (12 * frame) → Headed slots tmcc.now frame bytes.old bytes.new }
+fn write_head(head: &mut [u8], frame: u8, tmcc: &[u8; 64], sequence: &mut Sequence)
+    requires { (length head.old ≡ 12) × (frame < 8) }
+    ensures head { At sequence.old.window (12 * frame) → (i : ℕ) → i < 12 → slice_index head.new i ≡ head_byte tmcc.now (frame + 1) i }
     ensures place { At sequence.old.window (12 * frame) → At sequence.new.window (12 * (frame + 1)) }
 {
-    let start = frame_start(slots, frame);
     let first = TMCC * usize::from(frame);
-    put_sync(bytes, start, W1);
-    put_dispersed(
-        bytes,
-        start + TMCC_START,
-        &tmcc[first..first + TMCC],
-        sequence,
-    );
-    put_sync(bytes, start + SECOND, own_word(frame + 1));
+    put_sync(head, 0, W1);
+    put_dispersed(head, TMCC_START, &tmcc[first..first + TMCC], sequence);
+    put_sync(head, SECOND, own_word(frame + 1));
     sequence.skip(SYNC);
 }
 
@@ -53,25 +47,19 @@ pub fn write_heads(bytes: &mut [u8], slots: u8, tmcc: &[u8; 64])
 {
     let mut sequence = Sequence::new();
     for frame in 0..FRAMES {
-        write_head(bytes, slots, frame, tmcc, &mut sequence);
+        let start = frame_start(slots, frame);
+        write_head(&mut bytes[start..start + HEAD], frame, tmcc, &mut sequence);
     }
 }
 
 // Frames without a slot, so that nothing but their heads is written.
 const NO_SLOTS: u8 = 0;
 
-// Room for eight heads of twelve bytes.
-fn no_heads() -> [u8; 96]
-    ensures { length result ≡ 96 }
-{
-    [0; 96]
-}
-
 // The heads of the eight frames of a super-frame that carries this TMCC word, one after the other.
 pub fn frame_heads(tmcc: &[u8; 64]) -> [u8; 96]
     ensures { (frame i : ℕ) → frame < 8 → i < 12 → slice_index result (frame * 12 + i) ≡ head_byte tmcc.now (frame + 1) i }
 {
-    let mut bytes = no_heads();
+    let mut bytes = [0; 96];
     write_heads(&mut bytes, NO_SLOTS, tmcc);
     bytes
 }

@@ -3,7 +3,8 @@ ghost use Rattle.std.specs.Prelude.{◌≡◌, ℕ, ◌<◌, ◌≢◌, length};
 ghost use Rattle.frame_layout.specs.Layout.{super_size};
 ghost use Rattle.super_frame.specs.Parts.{SameHeads, SameSlot, InterleavedSlot};
 
-use crate::parts::{gather, scatter};
+use crate::frames::Frames;
+use crate::parts::scatter;
 use interleaver::interleave;
 
 // Interleaves the block whose rows are the parts of a slot.
@@ -15,7 +16,11 @@ fn interleave_slot(bytes: &mut [u8], slots: u8, slot: u8)
 {
     let mut block = [0; 1624];
     let mut sent = [0; 1624];
-    gather(bytes, slots, slot, &mut block);
+    let frames = Frames {
+        slots,
+        elements: bytes,
+    };
+    frames.gather(slot, &mut block);
     let _ = interleave(&block, &mut sent);
     scatter(&sent, bytes, slots, slot);
 }

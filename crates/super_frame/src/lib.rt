@@ -2,6 +2,7 @@
 #![tactic(auto)]
 
 mod finishing;
+mod frames;
 mod heads;
 mod interleaving;
 mod parts;

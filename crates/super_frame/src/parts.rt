@@ -6,7 +6,8 @@ ghost use Rattle.super_frame.specs.Parts.{part, Copied, Gathered, SameHeads, Sam
 use frame_layout::{FRAMES, HEAD, PART, frame_size};
 use interleaver::Element;
 
-// Where a slot's part of a frame begins.
+// Where a slot's part of a frame begins. Frame and slot are two numbers, since a caller counts one of them itself and is given the other: a struct
+// of both would be made for this call alone.
 pub(crate) fn part_start(slots: u8, frame: u8, slot: u8) -> usize
     ensures { result ≡ part slots frame slot }
 {
@@ -21,24 +22,11 @@ pub(crate) fn copy_part<T: Element>(from: &[T], at: usize, into: &mut [T], to: u
     into[to..to + PART].copy_from_slice(&from[at..at + PART]);
 }
 
-// Gathers the parts of a slot into the rows of a block.
-pub(crate) fn gather<T: Element>(bytes: &[T], slots: u8, slot: u8, block: &mut [T])
-    requires { (length bytes.now ≡ super_size slots) × (slot < slots) × (length block.old ≡ 1624) }
-    ensures { Gathered T.Element.idle slots slot bytes.now block.new }
-{
-    for frame in 0..FRAMES {
-        copy_part(
-            bytes,
-            part_start(slots, frame, slot),
-            block,
-            PART * usize::from(frame),
-        );
-    }
-}
-
-// Puts the rows of a block back as the parts of a slot.
-pub(crate) fn scatter(block: &[u8], bytes: &mut [u8], slots: u8, slot: u8)
-    requires { (length bytes.old ≡ super_size slots) × (slot < slots) × (length block.now ≡ 1624) }
+// Puts the rows of a block back as the parts of a slot. A buffer that is written stands beside its slots, here and in the other calls that write,
+// and not in a struct as `Frames` is: each method that takes such a struct by `&mut` would have to ensure that the slots and the reference in it
+// stay the same, two facts in place of the one on the length.
+pub(crate) fn scatter(block: &[u8; 1624], bytes: &mut [u8], slots: u8, slot: u8)
+    requires { (length bytes.old ≡ super_size slots) × (slot < slots) }
     ensures here { Gathered 0 slots slot bytes.new block.now }
     ensures heads { SameHeads slots bytes.old bytes.new }
     ensures others { (other : ℕ) → other < slots → other ≢ slot → SameSlot slots bytes.old bytes.new other }

@@ -11,9 +11,6 @@ use frame_layout::PART;
 // Byte 1 of a word is not sent, but the sequence runs on beneath it.
 pub(crate) const UNSENT: usize = 1;
 
-// How many values a byte has.
-const BYTE: u16 = 256;
-
 // Puts bytes at a place and adds the next bytes of the sequence to them.
 pub(crate) fn put_dispersed(bytes: &mut [u8], to: usize, from: &[u8], sequence: &mut Sequence)
     requires { to + length from.now ≤ length bytes.old }
@@ -30,8 +27,7 @@ pub(crate) fn put_sync(bytes: &mut [u8], to: usize, word: u16)
     requires { to + 2 ≤ length bytes.old }
     ensures { Put (word / 256 ∷ word % 256 ∷ []) bytes.old to bytes.new }
 {
-    bytes[to] = (word / BYTE) as u8;
-    bytes[to + 1] = (word % BYTE) as u8;
+    bytes[to..to + 2].copy_from_slice(&word.to_be_bytes());
 }
 
 // Puts a word into the part of its frame and slot, both counted from 0, as a row of the slot's block. The sequence moves on by a whole word.

@@ -1,14 +1,15 @@
 // A super-frame taken apart: its TMCC word and its slots' words, with the sequence taken off.
-ghost use Rattle.std.specs.Prelude.{◌≡◌, ℕ, ◌+◌, ◌*◌, ◌<◌, ◌≤◌, List, length, MatchResult, OnOk};
+ghost use Rattle.std.specs.Prelude.{◌≡◌, ℕ, ◌+◌, ◌/◌, ◌<◌, ◌≤◌, List, length, MatchResult, OnOk};
 ghost use Rattle.dispersal.specs.Stages.{At};
-ghost use Rattle.frame_layout.specs.Layout.{super_size, SuperFrame};
-ghost use Rattle.super_frame.specs.Reads.{words_size, Lengths, Off, OffWords, TmccRead, Read, ReadBack, ReadWhole};
+ghost use Rattle.frame_layout.specs.Layout.{SuperFrame};
+ghost use Rattle.super_frame.specs.Reads.{Lengths, Off, OffWords, TmccRead, Read, ReadBack, ReadWhole};
 
-use crate::heads::{SYNC, TMCC, TMCC_START, frame_start};
+use crate::frames::Frames;
+use crate::heads::{SYNC, TMCC, TMCC_START};
 use crate::put::{UNSENT, put_dispersed};
-use crate::taking::{WORD, take_bytes, words_size};
+use crate::taking::{SYNC_BYTE, WORD, take_words, words_size};
 use dispersal::Sequence;
-use frame_layout::{FRAMES, super_frame_size};
+use frame_layout::frame_size;
 use interleaver::WrongLength;
 
 // Takes the sequence off a word.
@@ -21,29 +22,28 @@ fn take_off(words: &mut [u8], start: usize, sequence: &mut Sequence)
     sequence.skip(UNSENT);
 }
 
-// Takes the sequence off all words.
-fn take_sequence_off(words: &mut [u8], count: usize)
-    requires { length words.old ≡ 204 * count }
-    ensures { OffWords count words.old words.new }
+// Takes the sequence off all words. By their places, since of a slice that `chunks_exact_mut` or `as_chunks_mut` has lent out, or that is split
+// in a loop, a proof knows only the length afterwards: that each word is `Off` the sequence stayed open.
+fn take_sequence_off(words: &mut [u8])
+    ensures { OffWords (length words.old / 204) words.old words.new }
 {
     let mut sequence = Sequence::new();
-    for number in 0..count {
+    for number in 0..words.len() / WORD {
         take_off(words, WORD * number, &mut sequence);
     }
 }
 
 // Reads the TMCC bytes of the heads.
-fn read_tmcc(stream: &[u8], slots: u8, tmcc: &mut [u8; 64])
-    requires { length stream.now ≡ super_size slots }
-    ensures { TmccRead slots stream.now 8 tmcc.new }
+fn read_tmcc(frames: &Frames<'_, u8>, tmcc: &mut [u8; 64])
+    ensures { TmccRead frames.now.slots frames.now.elements.now 8 tmcc.new }
 {
     let mut sequence = Sequence::new();
-    for frame in 0..FRAMES {
-        let start = frame_start(slots, frame) + TMCC_START;
+    let size = frame_size(frames.slots);
+    for (number, frame) in frames.elements.chunks_exact(size).enumerate() {
         put_dispersed(
             tmcc,
-            TMCC * usize::from(frame),
-            &stream[start..start + TMCC],
+            TMCC * number,
+            &frame[TMCC_START..TMCC_START + TMCC],
             &mut sequence,
         );
         sequence.skip(SYNC);
@@ -61,11 +61,12 @@ pub fn read(
     ensures back { OnOk result ((word : List ℕ) (sent : ℕ → ℕ → List ℕ) → SuperFrame slots word sent stream.now → ReadBack slots word sent tmcc.new words.new) }
     ensures whole { OnOk result (ReadWhole slots stream.now tmcc.new words.new) }
 {
-    if stream.len() != super_frame_size(slots) || words.len() != words_size(slots) {
+    let frames = Frames::new(stream, slots)?;
+    if words.len() != words_size(slots) {
         return Err(WrongLength);
     }
-    take_bytes(stream, slots, words);
-    take_sequence_off(words, usize::from(FRAMES) * usize::from(slots));
-    read_tmcc(stream, slots, tmcc);
+    take_words(&frames, SYNC_BYTE, words);
+    take_sequence_off(words);
+    read_tmcc(&frames, tmcc);
     Ok(())
 }

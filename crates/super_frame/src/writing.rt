@@ -1,38 +1,31 @@
 // A whole super-frame written.
-ghost use Rattle.std.specs.Prelude.{◌≡◌, ◌+◌, ◌*◌, ◌<◌, length, MatchResult};
-ghost use Rattle.frame_layout.specs.Layout.{super_size};
-ghost use Rattle.super_frame.specs.Carried.{packet_at, Fits, Written};
-ghost use Rattle.super_frame.specs.Progress.{Begun};
+ghost use Rattle.std.specs.Prelude.{◌≡◌, ℕ, ◌+◌, ◌<◌, List, length, MatchResult, OnOk};
+ghost use Rattle.frame_layout.specs.Layout.{super_size, SuperFrame};
+ghost use Rattle.super_frame.specs.Carried.{AllCarried, Fits, Written};
+ghost use Rattle.super_frame.specs.Progress.{FramePackets, Begun};
 
 use crate::finishing::finish;
 use crate::put::put_word;
-use crate::words::carried;
+use crate::words::{PACKET, carried};
 use dispersal::Sequence;
 use frame_layout::{FRAMES, super_frame_size};
 use interleaver::WrongLength;
 use slot_plan::Plan;
 
-// The bytes of a packet.
-const PACKET: usize = 188;
-
-// The packet of a slot in a frame, both counted from 0.
-fn packet_of(packets: &[u8], slots: u8, frame: u8, slot: u8) -> &[u8]
-    requires { (length packets.now ≡ 188 * (8 * slots)) × (frame < 8) × (slot < slots) }
-    ensures packet { result.now ≡ packet_at slots packets.now (frame + 1) (slot + 1) }
-    ensures size { length result.now ≡ 188 }
-{
-    let start = PACKET * (usize::from(frame) * usize::from(slots) + usize::from(slot));
-    &packets[start..start + PACKET]
-}
-
 // Puts the words of a frame, counted from 0, into their parts.
-fn put_frame(plan: &Plan, packets: &[u8], frame: u8, out: &mut [u8], sequence: &mut Sequence)
-    requires { Fits plan.now.fields packets.now out.old × (frame < 8) }
-    ensures { Begun plan.now.fields packets.now frame 0 sequence.old.window out.old → Begun plan.now.fields packets.now (frame + 1) 0 sequence.new.window out.new }
+fn put_frame(
+    plan: &Plan,
+    packets: &[[u8; PACKET]],
+    frame: u8,
+    out: &mut [u8],
+    sequence: &mut Sequence,
+)
+    requires { (length packets.now ≡ plan.now.fields.slots) × (length out.old ≡ super_size plan.now.fields.slots) × (frame < 8) }
+    ensures { (all : List ℕ) → FramePackets plan.now.fields.slots all frame packets.now → Begun plan.now.fields all frame 0 sequence.old.window out.old → Begun plan.now.fields all (frame + 1) 0 sequence.new.window out.new }
 {
     let slots = plan.slots();
-    for slot in 0..slots {
-        let word = carried(plan, slot + 1, packet_of(packets, slots, frame, slot));
+    for (slot, packet) in (0..slots).zip(packets) {
+        let word = carried(plan, slot + 1, packet);
         put_word(out, sequence, slots, frame, slot, &word);
     }
 }
@@ -45,7 +38,8 @@ pub fn write(
     packets: &[u8],
     out: &mut [u8],
 ) -> Result<(), WrongLength>
-    ensures { MatchResult result (λ _. Fits plan.now.fields packets.now out.old × Written plan.now.fields tmcc.now packets.now out.new) (λ _. (Fits plan.now.fields packets.now out.old → ⊥) × (out.new ≡ out.old)) }
+    ensures written { MatchResult result (λ _. Fits plan.now.fields packets.now out.old × Written plan.now.fields tmcc.now packets.now out.new) (λ _. (Fits plan.now.fields packets.now out.old → ⊥) × (out.new ≡ out.old)) }
+    ensures every { OnOk result ((words : ℕ → ℕ → List ℕ) → AllCarried plan.now.fields packets.now words → SuperFrame plan.now.fields.slots tmcc.now words out.new) }
 {
     let slots = plan.slots();
     if packets.len() != PACKET * (FRAMES as usize * usize::from(slots))
@@ -54,7 +48,8 @@ pub fn write(
         return Err(WrongLength);
     }
     let mut sequence = Sequence::new();
-    for frame in 0..FRAMES {
+    let (packets, _) = packets.as_chunks::<PACKET>();
+    for (frame, packets) in (0..FRAMES).zip(packets.chunks_exact(usize::from(slots))) {
         put_frame(plan, packets, frame, out, &mut sequence);
     }
     finish(out, slots, tmcc);

@@ -1,13 +1,12 @@
 // Makes the super-frame of each case on standard input, and prints the case anew with its digests and its ends.
 #![tactic(auto)]
 
-mod hex;
 mod packets;
 
 use anyhow::{Context, anyhow};
 use digests::{crc32, fnv1a};
 use frame_layout::super_frame_size;
-use hex::{Hex, unhex};
+use hexadecimal::{Hex, HexText};
 use packets::packets;
 use plan_formats::{Order, Tmcc, read_plan};
 use std::io::{BufRead, BufReader};
@@ -16,7 +15,7 @@ use tmcc_word::word;
 // How many bytes of each end are printed.
 const ENDS: usize = 32;
 
-// The super-frame of a case: a plan file, an order of change and the number of the first packet. Both writers have to make it.
+// The super-frame of a case: a plan file, an order of change and the number of the first packet.
 fn frame_bytes(rt: &HostRuntime, file: &[u8], order: u8, start: u16) -> anyhow::Result<Vec<u8>> {
     let heap = rt.alloc();
     let Ok(plan) = read_plan(file) else {
@@ -28,14 +27,8 @@ fn frame_bytes(rt: &HostRuntime, file: &[u8], order: u8, start: u16) -> anyhow::
     let tmcc = word(&Tmcc { order, plan });
     let carried = packets(heap, &plan, start)?;
     let mut out = vec![in heap; 0; super_frame_size(plan.slots())]?;
-    let mut by_parts = vec![in heap; 0; super_frame_size(plan.slots())]?;
-    if super_frame::write(&plan, &tmcc, carried.as_slice(), out.as_mut_slice()).is_err()
-        || frame_writer::write(&plan, &tmcc, carried.as_slice(), by_parts.as_mut_slice()).is_err()
-    {
+    if super_frame::write(&plan, &tmcc, carried.as_slice(), out.as_mut_slice()).is_err() {
         return Err(anyhow!("a length that is refused"));
-    }
-    if out.as_slice() != by_parts.as_slice() {
-        return Err(anyhow!("two writers that differ"));
     }
     Ok(out)
 }
@@ -46,7 +39,9 @@ fn answer(rt: &HostRuntime, case: &str) -> anyhow::Result<()> {
     let plan = fields.next().context("no plan")?;
     let order = fields.next().context("no order")?;
     let start = fields.next().context("no start")?;
-    let file = unhex(rt.alloc(), plan.as_bytes())?;
+    let file = HexText::new(plan.as_bytes())
+        .context("a plan that is not in hexadecimal digits")?
+        .to_vec(rt.alloc())?;
     let bytes = frame_bytes(
         rt,
         file.as_slice(),
@@ -54,13 +49,10 @@ fn answer(rt: &HostRuntime, case: &str) -> anyhow::Result<()> {
         start.parse::<u16>()?,
     )?;
     let bytes = bytes.as_slice();
-    if bytes.len() < ENDS {
-        return Err(anyhow!("a short super-frame"));
-    }
+    let first = Hex(bytes.first_chunk::<ENDS>().context("a short super-frame")?);
+    let last = Hex(bytes.last_chunk::<ENDS>().context("a short super-frame")?);
     let crc = crc32(bytes);
     let hash = fnv1a(bytes);
-    let first = Hex(&bytes[0..ENDS]);
-    let last = Hex(&bytes[bytes.len() - ENDS..]);
     println!(rt; "{plan} {order} {start} {crc:08X} {hash:016X} {first} {last}")?;
     Ok(())
 }

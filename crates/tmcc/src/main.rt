@@ -1,8 +1,8 @@
 // Prints the TMCC of the plan file on standard input.
 #![tactic(auto)]
 
+use hexadecimal::Hex;
 use plan_formats::read_plan;
-use std::fmt;
 use std::io::Read;
 use tmcc_report::{first_word, heads};
 
@@ -10,19 +10,6 @@ use tmcc_report::{first_word, heads};
 const DATA: usize = 48;
 
 const HEAD: usize = 12;
-
-// Bytes as hexadecimal digits in capitals.
-#[derive(Drop)]
-struct Hex<'a>(&'a [u8]);
-
-impl fmt::Display for Hex<'_> {
-    fn fmt<W: fmt::Write>(&self, f: &mut fmt::Formatter<W>) -> fmt::Result {
-        for byte in self.0 {
-            write!(f, "{byte:02X}")?;
-        }
-        Ok(())
-    }
-}
 
 // The data, the word and the heads of a plan's TMCC, or the number of the refusal.
 fn run(rt: &HostRuntime) -> anyhow::Result<()> {
@@ -37,15 +24,11 @@ fn run(rt: &HostRuntime) -> anyhow::Result<()> {
         }
     };
     let word = first_word(&plan);
-    let data = Hex(&word[0..DATA]);
-    println!(rt; "D {data}")?;
-    let whole = Hex(&word);
-    println!(rt; "W {whole}")?;
+    println!(rt; "D {}", Hex(&word[0..DATA]))?;
+    println!(rt; "W {}", Hex(&word))?;
     let heads = heads(&word);
     for (frame, head) in heads.chunks(HEAD).enumerate() {
-        let number = frame + 1;
-        let head = Hex(head);
-        println!(rt; "H {number} {head}")?;
+        println!(rt; "H {} {}", frame + 1, Hex(head))?;
     }
     Ok(())
 }

@@ -1,12 +1,13 @@
 -- What a run does to the modulator and the feed. Assumes nothing.
-use Rattle.std.specs.Prelude.{◌≡◌, ℕ, suc, ◌+◌, List, [], ◌∷◌, length}
+use Rattle.std.specs.Prelude.{◌≡◌, ℕ, suc, ◌+◌, List, [], ◌∷◌, length, Result}
 use Rattle.slot_plan.specs.declared.fields.Fields.{Fields}
 use Rattle.feed.specs.Packets.{Lists}
 use Rattle.modulator.specs.Fills.{Sent, Has, Filled}
 use Rattle.modulator.specs.Runs.{Run, Lawful}
 use Rattle.modulator.specs.declared.state.Loaded.{Loaded}
 use Rattle.transmission.specs.Plans.{OnAir, on_air}
-use Rattle.transmission.specs.declared.install.Install.{Install}
+use Rattle.run_inputs.specs.declared.change.Change.{Change}
+use Rattle.slot_plan.specs.declared.plan.Plan.{Plan}
 
 -- the modulator has this plan and order of change
 abbrev pub Airs : Loaded → OnAir → Type 0
@@ -26,7 +27,7 @@ abbrev pub FillsOn : OnAir → Loaded → Lists → List ℕ → Lists → Type 
 FillsOn a m before bytes after = (sent : Sent) × HasPlan sent a × Filled m before sent bytes after
 
 -- each super-frame, of which the last comes first, has the plan and the order of change that the installs before it left
-unfoldable pub Planned : Fields → List Install → List Sent → Type 0
+unfoldable pub Planned : Fields → List (Change (Result Plan ℕ)) → List Sent → Type 0
 Planned p installs [] = Unit {0}
 Planned p installs (sent ∷ earlier) = HasPlan sent (on_air p installs (suc (length earlier))) × Planned p installs earlier
 
@@ -39,7 +40,7 @@ Written (sent ∷ earlier) (bytes ∷ frames) =
     ((m : Loaded) × (before : Lists) × (after : Lists) × Filled m before sent bytes after) × Written earlier frames
 
 -- n super-frames of a run are sent, with these bytes
-pub record Reached (p : Fields) (installs : List Install) (start : Lists) (n : ℕ) (m : Loaded) (waiting : Lists) (frames : List (List ℕ)) : Type 0 where
+pub record Reached (p : Fields) (installs : List (Change (Result Plan ℕ))) (start : Lists) (n : ℕ) (m : Loaded) (waiting : Lists) (frames : List (List ℕ)) : Type 0 where
   pub sent : List Sent
   pub number : length sent ≡ n
   pub planned : Planned p installs sent
@@ -49,7 +50,7 @@ pub record Reached (p : Fields) (installs : List Install) (start : Lists) (n : �
 
 -- A whole run of n super-frames with these bytes, the last first: each has the plan and the order of change that the installs before
 -- it left, and of the packets that waited none is lost or doubled.
-pub record Transmitted (p : Fields) (installs : List Install) (n : ℕ) (before after : Lists) (frames : List (List ℕ)) : Type 0 where
+pub record Transmitted (p : Fields) (installs : List (Change (Result Plan ℕ))) (n : ℕ) (before after : Lists) (frames : List (List ℕ)) : Type 0 where
   pub sent : List Sent
   pub number : length sent ≡ n
   pub planned : Planned p installs sent

@@ -4,6 +4,7 @@ ghost use Rattle.transmission.specs.Lines.{line};
 
 use std::fmt;
 
+// An event of a run. A refusal stands in it by its number, which its line tells.
 #[derive(Clone, Copy)]
 pub enum Event {
     // the plan to begin with is none, by this refusal

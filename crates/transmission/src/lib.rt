@@ -2,15 +2,14 @@
 #![tactic(auto)]
 
 mod event;
-mod install;
+mod inputs;
 mod outlet;
 mod performance;
 mod run;
-mod source;
+mod transmitter;
 
 pub use event::Event;
-pub use install::{Install, Stated};
+pub use inputs::{Install, Source, Stated, stated};
 pub use outlet::Outlet;
 pub use performance::perform;
 pub use run::transmit;
-pub use source::Source;

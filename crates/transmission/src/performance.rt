@@ -3,10 +3,9 @@ ghost use Rattle.std.specs.Prelude.{OnOk};
 ghost use Rattle.transmission.specs.Performances.{Performed};
 
 use crate::event::Event;
-use crate::install::{Install, Stated};
+use crate::inputs::{Install, Source, Stated};
 use crate::outlet::Outlet;
 use crate::run::transmit;
-use crate::source::Source;
 use pattern_feed::PatternFeed;
 use std::alloc::Global;
 use stored_feed::StoredFeed;
@@ -23,8 +22,8 @@ pub fn perform<O: Outlet>(
     ensures { OnOk result (Performed O.Outlet.begins O.Outlet.sends O.Outlet.hears stated source.entry installs.now count outlet.old outlet.new) }
 {
     let plan = match stated {
-        Stated::Plan(plan) => plan,
-        Stated::Refused(refusal) => return outlet.tell(Event::PlanRefused { refusal }),
+        Ok(plan) => plan,
+        Err(refusal) => return outlet.tell(Event::PlanRefused { refusal }),
     };
     match source {
         Source::Pattern(counts) => {
@@ -33,12 +32,14 @@ pub fn perform<O: Outlet>(
             transmit(heap, &plan, installs, count, &mut feed, outlet)
         }
         Source::File(file) => {
-            let mut feed = StoredFeed::empty();
-            if let Err(fault) = feed.open(file) {
-                return outlet.tell(Event::PacketsRefused {
-                    refusal: fault.number(),
-                });
-            }
+            let mut feed = match StoredFeed::open(file) {
+                Ok(feed) => feed,
+                Err(fault) => {
+                    return outlet.tell(Event::PacketsRefused {
+                        refusal: fault.number(),
+                    });
+                }
+            };
             outlet.begin()?;
             transmit(heap, &plan, installs, count, &mut feed, outlet)
         }

@@ -1,19 +1,16 @@
-use Rattle.std.proofs.Common.{◌≡◌, ℕ, sym, ap, ◌∙◌, arith}
+use Rattle.std.proofs.Common.{◌≡◌, ℕ, ◌<◌, Option, Some, None, MatchOption, IsSomeAnd, ap, ◌∙◌, rules, arith}
 use Rattle.field256.specs.Field.{times}
-use Rattle.field256.proofs.Laws.{times_assoc, times_comm, times_one, zero_times}
+use Rattle.field256.proofs.Laws.{times_assoc, times_comm, times_one}
 use Rattle.locator.proofs.field.quotient.Goals as goal
 
-one_apart : ◌≡◌ {A = ℕ} 1 0 → ⊥
-one_apart e = omega arith
+-- R relates the inverse to what is made of it
+divided : (o r : Option ℕ) (a b : ℕ) → a < 256 → (R : ℕ → ℕ → Type 0) → ((i q : ℕ) → R i q → q ≡ times a i)
+    → MatchOption o (b ≡ 0) (λ i. (i < 256) × (times b i ≡ 1)) → MatchOption o (r ≡ None) (λ i. IsSomeAnd r (R i))
+    → MatchOption r (b ≡ 0) (λ q. times q b ≡ a)
+divided None r a b fits R made zero e = rw e zero
+divided (Some i) None a b fits R made one e = absurd e
+divided (Some i) (Some q) a b fits R made one e =
+    ap (λ (x : ℕ). times x b) (made i q e) ∙ times_assoc a i b ∙ ap (times a) (times_comm i b ∙ one.1) ∙ times_one a fits
 
-pub returns-in-Some : goal.returns-in-Some
-returns-in-Some c =
-    let i = c.in-Some.ensures in
-    record {
-      quotient = λ h.
-          ap (λ (x : ℕ). times x c.args.b) c.product.ensures
-          ∙ times_assoc c.args.a c.in-Some.i c.args.b
-          ∙ ap (times c.args.a) (times_comm c.in-Some.i c.args.b ∙ i.1)
-          ∙ times_one c.args.a (omega arith);
-      zero = λ z. absurd (one_apart (sym i.1 ∙ ap (λ (x : ℕ). times x c.in-Some.i) z ∙ zero_times c.in-Some.i));
-    }
+pub returns : goal.returns
+returns c = divided c.inverse.result c.map.result c.args.a c.args.b (omega arith) _ (λ i q e. search rules) c.inverse.ensures c.map.ensures.cases

@@ -1,15 +1,19 @@
-use Rattle.std.proofs.Common.{add-one, arith}
-use Rattle.locator.proofs.Widening.{vanishes_none, vanishes_more}
+use Rattle.std.proofs.Common.{◌≡◌, ℕ, ◌-◌, ◌<◌, length, get_or, ap, ◌∙◌, add-one, arith, length-take}
+use Rattle.std.proofs.lemmas.List.{get_or-take}
+use Rattle.field256.specs.Field.{power}
+use Rattle.code_theory.specs.Sequences.{place}
+use Rattle.locator.proofs.Widening.{vanishes_more}
 use Rattle.locator.proofs.values.polynomial_of.Goals as goal
 
-pub overflow_sub-places : goal.overflow_sub-places
-overflow_sub-places c = omega (arith, c.args.places.now.within c.loop-m.m (omega arith))
-
-pub loop-m-init : goal.loop-m-init
-loop-m-init c = vanishes_none c.args.places.now.len c.args.places.now.list
-
-pub loop-m-preserved : goal.loop-m-preserved
-loop-m-preserved c =
-    rw (add-one c.loop-m.m)
-    (vanishes_more c.args.places.now.len c.loop-m.m c.args.places.now.list c.loop-m.p c.widen.new.p c.exp.result
-    c.exp.ensures c.loop-m.invariant c.widen.ensures.shape c.widen.ensures.product)
+pub loop-degree-preserved : goal.loop-degree-preserved
+loop-degree-preserved c =
+    let places = c.args.places.now in
+    let m = c.loop-degree.degree in
+    let inside : m < places.count = omega (arith, length-take places.count places.list, ap length c.as_slice-place-items.ensures) in
+    let here : get_or c.as_slice-place-items.result.now m 0 ≡ get_or places.list m 0
+    = rw c.as_slice-place-items.ensures (get_or-take places.count places.list m 0 inside) in
+    let at : c.exp.result ≡ place places.len (get_or places.list m 0)
+    = c.exp.ensures ∙ ap (λ (k : ℕ). power 2 (places.len - 1 - k)) here in
+    rw add-one
+    (vanishes_more places.len m places.list c.loop-degree.coefficients c.widen.new.p c.exp.result at c.loop-degree.invariant c.widen.ensures.shape
+    c.widen.ensures.product)

@@ -1,5 +1,5 @@
 use Rattle.locator.specs.Quotients.{Vanishes}
 use Rattle.locator.proofs.values.polynomial_of.Given as goal
 
-abbrev pub invariant-loop-m : goal.invariant-loop-m
-invariant-loop-m l = Vanishes l.places.len l.m l.places.list l.p
+abbrev pub invariant-loop-degree : goal.invariant-loop-degree
+invariant-loop-degree l = Vanishes l.places.len l.degree l.places.list l.coefficients

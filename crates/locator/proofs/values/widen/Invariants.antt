@@ -1,10 +1,11 @@
-use Rattle.std.proofs.Common.{◌≡◌, ℕ, suc, ◌<◌, ◌≤◌, length, get_or}
+use Rattle.std.proofs.Common.{◌≡◌, ℕ, ◌+◌, ◌<◌, ◌≤◌, ◌∷◌, length, get_or}
 use Rattle.field256.specs.Field.{plus, times}
 use Rattle.locator.proofs.values.widen.Given as goal
 
-abbrev pub invariant-loop-j : goal.invariant-loop-j
-invariant-loop-j l =
-    (length l.p ≡ 17)
-    × ((i : ℕ) → l.j ≤ i → i ≤ l.degree → get_or l.p (suc i) 0 ≡ plus (get_or l.initial.p i 0) (times l.x (get_or l.initial.p (suc i) 0)))
-    × ((i : ℕ) → i ≤ l.j → get_or l.p i 0 ≡ get_or l.initial.p i 0)
-    × ((i : ℕ) → suc l.degree < i → get_or l.p i 0 ≡ get_or l.initial.p i 0)
+abbrev pub invariant-loop-coefficient : goal.invariant-loop-coefficient
+invariant-loop-coefficient l = record {
+  size : length l.coefficient-items ≡ l.degree + 2;
+  below : l.below ≡ get_or (0 ∷ l.fn.p) l.coefficient-index 0;
+  made : (j : ℕ) → j < l.coefficient-index → get_or l.coefficient-items j 0 ≡ plus (get_or (0 ∷ l.fn.p) j 0) (times l.x (get_or l.fn.p j 0));
+  left : (j : ℕ) → l.coefficient-index ≤ j → j < l.degree + 2 → get_or l.coefficient-items j 0 ≡ get_or l.fn.p j 0;
+}

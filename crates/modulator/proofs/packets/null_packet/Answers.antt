@@ -4,4 +4,4 @@ use Rattle.modulator.proofs.packets.null_packet.Goals as goal
 
 pub returns : goal.returns
 unfolding null_packet
-returns c = refl
+returns c = rw c.copy_from_slice.ensures.after refl

@@ -1,31 +1,31 @@
-use Rattle.std.proofs.Common.{◌≡◌, ℕ, ◌≤◌, true, false, length, sym, subst, arith}
+use Rattle.std.proofs.Common.{◌≡◌, ◌≤◌, length, get_or, Option, Some, None, MatchOption, Decides, true, false, Bool, refl, rules, arith}
+use Rattle.std.specs.Bool.{then_some}
+use Rattle.locator.specs.declared.errors.Errors.{Errors}
+use Rattle.locator.specs.Errors.{corrected}
 use Rattle.outer_code.proofs.Seeking.{none_found, not_permitted, found}
 use Rattle.outer_code.proofs.corrector.errors_of.Goals as goal
 
-pub returns-then-permits : goal.returns-then-permits
-returns-then-permits g c =
-    let e = c.in_ok-errors.errors in
-    let short : length c.args.word.now ≤ 255 = omega (arith, g.met.K.WordKind.short) in
-    found g.K.WordKind.permitted c.args.bound c.requires.bound c.args.word.now short (λ k. (c.type_inv.word k).fits) c.args.rest
-    c.requires.rest c.syndromes_of.result c.syndromes_of.ensures e.places.count e.places.list e.values c.in_ok-errors.ensures
-    (rw c.corrected_byte.ensures at (c.permits.ensures.0 c.if-permits.true))
+-- what is left of errors by a test of which R tells the answer
+filtered : (o r : Option Errors) {N M : Type 0} {C D : Errors → Type 0} (R : Errors → Bool → Type 0)
+    → MatchOption o N C → MatchOption o (r ≡ None) (λ x. (b : Bool) × R x b × (r ≡ then_some b x)) → (N → M)
+    → ((e : Errors) → C e → R e true → D e) → ((e : Errors) → C e → R e false → M) → MatchOption r M D
+filtered None r R n e none kept left = rw e (none n)
+filtered (Some x) r R n (true, h, e) none kept left = rw e (kept x n h)
+filtered (Some x) r R n (false, h, e) none kept left = rw e (left x n h)
 
-pub returns-else-permits : goal.returns-else-permits
-returns-else-permits g c =
-    let e = c.in_ok-errors.errors in
-    let short : length c.args.word.now ≤ 255 = omega (arith, g.met.K.WordKind.short) in
-    not_permitted g.K.WordKind.permitted c.args.bound c.requires.bound c.args.word.now short (λ k. (c.type_inv.word k).fits) c.args.rest
-    c.requires.rest c.syndromes_of.result c.syndromes_of.ensures e.places.count e.places.list e.values c.in_ok-errors.ensures
-    (λ p.
-    let taken : c.permits.result ≡ true
-    = c.permits.ensures.1 (subst (λ (b : ℕ). g.K.WordKind.permitted b) (sym c.corrected_byte.ensures) p) in
-    let left : c.permits.result ≡ false = c.if-permits.false in
-    let z : ◌≡◌ {A = ℕ} 0 1 = cc in
-    omega arith)
-
-pub returns-in_err-errors : goal.returns-in_err-errors
-returns-in_err-errors g c =
-    let short : length c.args.word.now ≤ 255 = omega (arith, g.met.K.WordKind.short) in
-    rw c.from_residual.ensures
-    (none_found g.K.WordKind.permitted c.args.bound c.requires.bound c.args.word.now short (λ k. (c.type_inv.word k).fits) c.args.rest
-    c.requires.rest c.syndromes_of.result c.syndromes_of.ensures c.in_err-errors.ensures)
+pub returns : goal.returns
+returns g c =
+    let P = g.K.WordKind.permitted in
+    let w = c.args.word.now in
+    let s = c.syndromes_of in
+    let short : length w ≤ 255 = omega (arith, g.met.K.WordKind.short) in
+    filtered c.find-found.result c.filter.result _ c.find-found.ensures c.filter.ensures
+    (λ n. none_found P c.args.bound c.requires.bound w short (λ k. (c.type_inv.word k).fits) c.args.rest c.requires.rest s.result s.ensures (rw c.from.ensures at n))
+    (λ e h t.
+    let test : Decides true (P (get_or (corrected e.places.count e.places.list e.values w) 0 0)) = search rules in
+    found P c.args.bound c.requires.bound w short (λ k. (c.type_inv.word k).fits) c.args.rest c.requires.rest s.result s.ensures
+    e.places.count e.places.list e.values (rw c.from.ensures at h) (test.0 refl))
+    (λ e h t.
+    let test : Decides false (P (get_or (corrected e.places.count e.places.list e.values w) 0 0)) = search rules in
+    not_permitted P c.args.bound c.requires.bound w short (λ k. (c.type_inv.word k).fits) c.args.rest c.requires.rest s.result s.ensures
+    e.places.count e.places.list e.values (rw c.from.ensures at h) (λ p. cc (test.1 p)))

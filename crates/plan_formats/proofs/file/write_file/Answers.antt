@@ -1,39 +1,36 @@
-use Rattle.std.proofs.Common.{◌≡◌, ℕ, ◌+◌, [], ◌∷◌, subst, arith}
-use Rattle.plan_formats.specs.Bits.{front}
-use Rattle.plan_formats.specs.Body.{body, body_width, Run, Small}
-use Rattle.plan_formats.specs.Formats.{file_widths}
-use Rattle.plan_formats.specs.declared.body.Widths.{Widths}
-use Rattle.slot_plan.specs.declared.fields.Fields.{Fields}
-use Rattle.plan_formats.proofs.Heads.{front_none, file_run}
-use Rattle.plan_formats.proofs.Joins.{run_one, run_append}
+use Rattle.std.proofs.Common.{ℕ, List, length, ap, rules, arith}
+use Rattle.slot_plan.specs.declared.fault.PlanFault.TheVariants.{SlotCount}
+use Rattle.slot_plan.proofs.Checked.{plan_valid}
+use Rattle.plan_formats.specs.Formats.{file_fields, PlanFile}
+use Rattle.plan_formats.proofs.Plans.{valid_beyond}
+use Rattle.plan_formats.proofs.Recovered.{width_file}
+use Rattle.plan_formats.proofs.Writing.{wrote_append, wrote_holds, as_written}
 use Rattle.plan_formats.proofs.file.write_file.Goals as goal
 
--- whole bytes are wide enough for every number
-file_small : (n : ℕ) (f : Fields) → Small (file_widths n) f
-file_small n f =
-    record { words = λ h. absurd (omega (arith, h)); counts = λ h. absurd (omega (arith, h)); streams = λ h. absurd (omega (arith, h)); control = λ h. absurd (omega (arith, h)); expanded = λ h. absurd (omega (arith, h)) }
+pub new-bits-requires : goal.new-bits-requires
+new-bits-requires c = omega (arith, (plan_valid c.args.plan.now SlotCount).1)
 
-pub write_body-requires : goal.write_body-requires
-write_body-requires c =
-    let f = c.args.fields.now in
-    let is : c.widths.result ≡ file_widths f.slots = c.widths.ensures in
-    record {
-      within = rw is (omega arith);
-      narrow = rw is (omega arith, (omega arith, (omega arith, (omega arith, (omega arith, omega arith)))));
-      short = omega arith;
-      small = rw is (file_small f.slots f);
-    }
+pub write-requires-4-clause-narrow : goal.write-requires-4-clause-narrow
+write-requires-4-clause-narrow c =
+    let room = (plan_valid c.args.plan.now SlotCount).1 in
+    rw (c.widths.ensures, c.fields-fields.ensures) (omega arith, (omega arith, (omega arith, (room, (omega arith, omega arith)))))
 
-pub returns : goal.returns
-returns c =
-    let f = c.args.fields.now in
-    let none = front_none c.args.bytes.now in
-    let mark = run_one 0 0 24 0x534C50 (front c.put.new.bytes 24) (omega (arith, c.put.ensures, none)) (omega arith) in
-    let version = run_one (front c.put.new.bytes 24) 24 16 1 (front c.put-2.new.bytes 40) c.put-2.ensures (omega arith) in
-    let slots = run_one (front c.put-2.new.bytes 40) 40 8 f.slots (front c.put-3.new.bytes 48) c.put-3.ensures (omega arith) in
-    let head = run_append ((24, 0x534C50) ∷ []) ((16, 1) ∷ (8, f.slots) ∷ []) mark (run_append ((16, 1) ∷ []) ((8, f.slots) ∷ []) version slots) in
-    let run = subst (λ (w : Widths). Run (front c.put-3.new.bytes 48) 48 (body w f) (front c.write_body.new.bytes (48 + body_width w)) (48 + body_width w)) c.widths.ensures c.write_body.ensures in
-    record {
-      holds = file_run c.write_body.new.bytes f (front c.put-3.new.bytes 48) head run (omega arith);
-      bytes = λ k. omega (arith, c.type_inv.bytes k);
-    }
+pub returns-clause-file : goal.returns-clause-file
+unfolding file_fields
+returns-clause-file c =
+    let p = c.args.plan.now in
+    let f = p.fields in
+    let same = c.fields-fields.ensures in
+    let version = rw c.from.ensures at c.write-2.ensures in
+    let slots = rw (c.from-2.ensures, same) at c.write-3.ensures in
+    let rest = rw (c.widths.ensures, same) at c.write-4.ensures in
+    let room = (plan_valid p SlotCount).1 in
+    let wide = width_file f p.shaped room in
+    let all = wrote_append _ _ c.write.ensures (wrote_append _ _ version (wrote_append _ _ slots rest)) in
+    as_written (λ (l : List ℕ). PlanFile l f) _ c.write-4.new.bits.bytes.now (search rules)
+    (record {
+      shaped = p.shaped;
+      room = room;
+      beyond = valid_beyond f p.shaped (plan_valid p);
+      holds = wrote_holds (file_fields f) c.new-bits.ensures.place (omega (arith, wide, ap length c.new-bits.ensures.bytes)) all;
+    })

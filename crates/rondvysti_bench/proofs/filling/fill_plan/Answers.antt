@@ -1,20 +1,21 @@
-use Rattle.std.proofs.Common.{refl, inl, arith}
+use Rattle.std.proofs.Common.{rules, refl, inl, arith}
+use Rattle.modulator.specs.Fills.{Has}
 use Rattle.stored_feed.specs.Pending.{pending}
 use Rattle.rondvysti_bench.proofs.filling.fill_plan.Goals as goal
 
-pub returns-in-Ok-fill : goal.returns-in-Ok-fill
-returns-in-Ok-fill c =
-    let opened = c.in_default.ensures.opened in
-    let loaded = c.in-Ok-load.ensures.load in
-    let filled = c.in-Ok-fill.ensures.fill in
+pub returns : goal.returns
+returns c =
+    let opened = c.in_ok-feed.ensures in
+    let loaded : Has c.in_ok-loaded.loaded 0 c.args.plan.now.fields = search rules in
+    let filled = c.in_ok-fill.ensures.fill in
     inl (
       refl,
       opened.0,
-      omega (arith, filled.0, loaded.1.plan_is.frame),
+      omega (arith, filled.0, loaded.plan_is.frame),
       record {
-        modulator = c.in-Ok-load.loaded;
-        loaded = loaded.1;
-        lists = pending c.open.new.self;
+        modulator = c.in_ok-loaded.loaded;
+        loaded = loaded;
+        lists = pending c.in_ok-feed.feed;
         waited = opened.1;
         sent = filled.1.0;
         rest = pending c.fill.new.feed;

@@ -1,19 +1,13 @@
-use Rattle.std.proofs.Common.{◌∙◌}
-use Rattle.stored_feed.proofs.Scan.{from_end, from_here, from_past}
+use Rattle.std.proofs.Common.{rules}
+use Rattle.std.proofs.lemmas.Iterator.{first_from_Range}
+use borrow.Author.Tests.{tests}
+use Rattle.stored_feed.proofs.Searched.{Hit, Miss, searched}
 use Rattle.stored_feed.proofs.records.find.Goals as goal
-
-pub returns-then-file-i : goal.returns-then-file-i
-returns-then-file-i c = (
-  c.loop-i-test.true,
-  c.loop-i.invariant
-      ∙ from_here c.args.file.now c.args.stream c.loop-i.i c.loop-i-test.true c.if-file-i.true,
-)
-
-pub loop-i-preserved : goal.loop-i-preserved
-loop-i-preserved c =
-    c.loop-i.invariant
-    ∙ from_past c.args.file.now c.args.stream c.loop-i.i c.loop-i-test.true c.if-file-i.false
 
 pub returns : goal.returns
 returns c =
-    c.loop-i.invariant ∙ from_end c.args.file.now c.args.stream c.loop-i.i c.loop-i-test.false
+    let chunks = c.as_chunks.result.0.now in
+    searched c.args.file.now chunks c.args.stream c.args.from c.find.result c.as_chunks.ensures.front c.as_chunks.ensures.front_len
+    (first_from_Range _ _ _ _ (Hit c.args.file.now chunks c.args.stream c.args.from) (Miss c.args.file.now chunks c.args.stream c.args.from) c.find.ensures.ran
+    (λ x q k. search (rules, tests))
+    (λ x q k. search (rules, tests)))

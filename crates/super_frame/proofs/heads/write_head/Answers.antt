@@ -1,8 +1,7 @@
 use Rattle.std.proofs.Common.{◌≡◌, ℕ, ◌+◌, ◌-◌, ◌*◌, ◌<◌, List, length, get_or, take, drop, ap, ◌∙◌, subst, arith}
 use Rattle.std.proofs.lemmas.List.Edits.{length-between, get_or-between}
 use Rattle.dispersal.specs.Stages.{At}
-use Rattle.super_frame.proofs.Apart.{frames_apart}
-use Rattle.super_frame.proofs.Headings.{headed}
+use Rattle.super_frame.proofs.Headings.{whole}
 use Rattle.super_frame.proofs.heads.write_head.Goals as goal
 
 -- the eight TMCC bytes of a frame
@@ -11,16 +10,6 @@ eight tmcc at frame e h size = length-between tmcc (8 * at) (8 * at + 8) (omega 
 
 bytes : (tmcc : List ℕ) (at frame : ℕ) → at ≡ frame → (i : ℕ) → i < 8 → get_or (take (8 * at + 8 - 8 * at) (drop (8 * at) tmcc)) i 0 ≡ get_or tmcc (8 * frame + i) 0
 bytes tmcc at frame e i h = get_or-between tmcc (8 * at) (8 * at + 8) i 0 (omega arith) ∙ ap (λ (f : ℕ). get_or tmcc (8 * f + i) 0) e
-
-pub put_sync-requires : goal.put_sync-requires
-put_sync-requires c = omega (arith, frames_apart c.args.slots c.args.frame 8 c.requires.1)
-
-pub put_dispersed-requires : goal.put_dispersed-requires
-put_dispersed-requires c =
-    omega (arith, frames_apart c.args.slots c.args.frame 8 c.requires.1, eight c.args.tmcc.now c.from-first.result c.args.frame c.from-first.ensures c.requires.1 c.told-tmcc)
-
-pub put_sync-requires-2 : goal.put_sync-requires-2
-put_sync-requires-2 c = omega (arith, frames_apart c.args.slots c.args.frame 8 c.requires.1)
 
 pub returns : goal.returns
 returns c =
@@ -31,9 +20,8 @@ returns c =
     let long = eight tmcc at frame c.from-first.ensures c.requires.1 c.told-tmcc in
     record {
       head = λ here.
-          headed c.args.slots frame c.frame_start-start.result c.own_word.result tmcc piece c.args.bytes.now c.put_sync.new.bytes
-          c.put_dispersed.new.bytes c.put_sync-2.new.bytes c.frame_start-start.ensures c.own_word.ensures long
-          (bytes tmcc at frame c.from-first.ensures) c.put_sync.ensures (c.put_dispersed.ensures.put (12 * frame) here) c.put_sync-2.ensures;
+          whole frame c.own_word.result tmcc piece c.args.head.now c.put_sync.new.bytes c.put_dispersed.new.bytes c.put_sync-2.new.bytes
+          c.own_word.ensures long (bytes tmcc at frame c.from-first.ensures) c.put_sync.ensures (c.put_dispersed.ensures.put (12 * frame) here) c.put_sync-2.ensures;
       place = λ here.
           let next : 12 * frame + 8 + 4 ≡ 12 * (frame + 1) = omega arith in
           subst (λ (m : ℕ). At c.skip.new.self.window m) next

@@ -1,11 +1,6 @@
 use Rattle.std.proofs.Common.{◌*◌, ◌∙◌, arith}
-use Rattle.super_frame.proofs.Apart.{part_within}
 use Rattle.super_frame.proofs.Rows.{scattered_more, left_head, left_part}
 use Rattle.super_frame.proofs.parts.scatter.Goals as goal
-
-pub copy_part-requires : goal.copy_part-requires
-copy_part-requires c =
-    (omega arith, omega (arith, part_within c.args.slots c.loop-frame.frame c.args.slot (omega arith) c.requires.1))
 
 pub loop-frame-preserved : goal.loop-frame-preserved
 loop-frame-preserved c =
@@ -24,11 +19,3 @@ loop-frame-preserved c =
           left_part 0 slots slot n at to block before after c.requires.1 c.part_start.ensures copied frame other i ho hi (λ _. ne)
           ∙ c.loop-frame.invariant.2 other ho ne frame i hf hi,
     )
-
-pub returns : goal.returns
-returns c =
-    record {
-      here = record { size = omega arith; rows = λ frame c' hf hc. c.loop-frame.invariant.0 frame c' (omega arith) hc };
-      heads = c.loop-frame.invariant.1;
-      others = c.loop-frame.invariant.2;
-    }

@@ -2,7 +2,6 @@ use Rattle.std.proofs.Common.{◌≡◌, ℕ, ◌+◌, ◌*◌, List, length, ta
 use Rattle.std.proofs.lemmas.List.{take_all, length-drop}
 use Rattle.dispersal.specs.Stages.{At, added}
 use Rattle.super_frame.specs.Parts.{part, Put}
-use Rattle.super_frame.proofs.Apart.{part_within}
 use Rattle.super_frame.proofs.Staging.{staged_more}
 use Rattle.super_frame.proofs.put.put_word.Goals as goal
 
@@ -12,10 +11,6 @@ sent word size = take_all 203 (drop 1 word) (omega (arith, length-drop 1 word))
 
 sent_length : (word : List ℕ) → length word ≡ 204 → length (take 203 (drop 1 word)) ≡ 203
 sent_length word size = ap length (sent word size) ∙ (length-drop 1 word ∙ omega arith)
-
-pub put_dispersed-requires : goal.put_dispersed-requires
-put_dispersed-requires c =
-    omega (arith, part_within c.args.slots c.args.frame c.args.slot c.requires.1 c.requires.2, sent_length c.args.word.now c.told-word)
 
 pub returns : goal.returns
 returns c =

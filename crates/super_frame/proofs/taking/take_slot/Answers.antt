@@ -10,7 +10,7 @@ returns g c =
     let rows = c.deinterleave.new.into in
     record {
       here =
-          taken_here rest c.args.first c.args.slots c.args.slot c.args.stream.now block rows c.put_rows.new.words c.gather.ensures
+          taken_here rest c.args.first c.args.frames.now.slots c.args.slot c.args.frames.now.elements.now block rows c.put_rows.new.words c.gather.ensures
           (moved_ok (λ x xs. deinterleaved x xs) rest block c.args.rows.now rows c.deinterleave.result
           (c.gather.ensures.size, c.requires.3) c.deinterleave.ensures.moved)
           c.put_rows.ensures.here;

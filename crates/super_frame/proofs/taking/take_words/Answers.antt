@@ -8,8 +8,8 @@ pub loop-slot-preserved : goal.loop-slot-preserved
 loop-slot-preserved g c =
     let rest = g.T.Element.idle in
     let first = c.args.first in
-    let slots = c.args.slots in
-    let stream = c.args.stream.now in
+    let slots = c.args.frames.now.slots in
+    let stream = c.args.frames.now.elements.now in
     let after = c.take_slot.new.words in (
       omega arith,
       omega arith,

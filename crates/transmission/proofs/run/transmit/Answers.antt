@@ -6,11 +6,11 @@ returns g c =
     let p = c.args.plan.now.fields in
     let installs = c.args.installs.now in
     let count = c.args.count in
-    let m = c.load-modulator.result in
-    let last = c.send_all.new.modulator in
+    let m = c.in_ok-new.field-0.modulator in
+    let last = c.send_all.new.self.modulator in
     let before = g.F.Feed.lists c.args.feed.now in
     let after = g.F.Feed.lists c.send_all.new.feed in
-    let start = begin p installs m before c.load-modulator.ensures.state (c.load-modulator.ensures.run before) in
+    let start = begin p installs m before c.in_ok-new.ensures.state (c.in_ok-new.ensures.run before) in
     let run = c.in_ok-send_all.ensures.reached p before start in
     let all = whole p installs count last before after run.0 run.1 in
     record {

@@ -11,7 +11,7 @@ unfolding sequence
 returns c =
     let xs = c.args.group.now in
     let l = c.loop-k in
-    let x = c.next_eight.result in
+    let x = c.advance.result in
     let octets-are : c.to_be_bytes-eight.result ≡ octets 8 x = simp div-one c.to_be_bytes-eight.ensures in
     record {
       bytes = λ n here.
@@ -21,7 +21,7 @@ returns c =
           let place : 8 * n + 8 * k ≡ 8 * (n + k) = omega arith in
           let term : get_or c.to_be_bytes-eight.result k 0 ≡ sequence (n + k) =
           ap (λ (ys : List ℕ). get_or ys k 0) octets-are
-          ∙ (octet_bits (8 * n) k x (c.next_eight.ensures.bytes n here) few ∙ ap (λ (t : ℕ). bits t 8) place) in
+          ∙ (octet_bits (8 * n) k x (c.advance.ensures.bytes n here) few ∙ ap (λ (t : ℕ). bits t 8) place) in
           l.invariant.0 k (omega arith) ∙ (ap (λ (b : ℕ). bit_xor (get_or xs k 0) b) term ∙ sym (get_or_added n xs k (omega arith))));
-      place = c.next_eight.ensures.place;
+      place = c.advance.ensures.place;
     }

@@ -1,5 +1,7 @@
+use Rattle.std.proofs.Common.{◌+◌, ◌-◌, length}
 use Rattle.locator.proofs.Rooting.{Sought}
 use Rattle.locator.proofs.roots.Places.of.Given as goal
 
-abbrev pub invariant-loop-k : goal.invariant-loop-k
-invariant-loop-k l = Sought l.locator.coefficients l.locator.degree l.len l.k l.count l.list
+abbrev pub invariant-loop-place : goal.invariant-loop-place
+invariant-loop-place l =
+    Sought l.locator.coefficients l.locator.degree l.len (l.len - l.reach + length l.yielded) l.count l.list

@@ -1,53 +1,26 @@
-use Rattle.std.proofs.Common.{ℕ, ◌^◌, List, map, vec_items, string_bytes, subst, arith}
-use Rattle.std.proofs.lemmas.List.{length-map}
-use Rattle.modulate_job.specs.Jobs.{Changes, WrongChanges}
+use Rattle.std.proofs.Common.{rules, ℕ, ◌^◌, ◌≤◌, List, length, map, get_or, [], string_bytes, subst}
+use Rattle.std.proofs.lemmas.Result.{err_from_is_err_and}
+use Rattle.modulate_job.specs.Jobs.{WrongChanges}
 use Rattle.modulate_job.specs.Numbers.{Number}
 use Rattle.modulate_job.specs.Packets.{Names}
-use Rattle.modulate_job.proofs.Spelt.{text_at, texts_from, wrong_changes}
+use Rattle.modulate_job.proofs.Spelt.{texts_from, wrong_changes}
 use Rattle.modulate_job.proofs.job.Job.of.Goals as goal
 
-pub returns-then-words-lt-FIXED : goal.returns-then-words-lt-FIXED
-returns-then-words-lt-FIXED c = rw length-map c.if-words-lt-FIXED.true
-
-pub returns-in_default : goal.returns-in_default
-returns-in_default c =
-    (rw length-map (omega arith), text_at c.args.words.now 1 c.index-words-1.result c.as_str-word.result.now (omega arith) c.index-words-1.is c.as_str-word.ensures.value, c.in_default.ensures)
-
-pub returns-in_default-number : goal.returns-in_default-number
-returns-in_default-number c =
+pub returns-in_err-pairs : goal.returns-in_err-pairs
+returns-in_err-pairs c =
     let words = c.args.words.now in
-    let packets = text_at words 1 c.index-words-1.result c.as_str-word.result.now (omega arith) c.index-words-1.is c.as_str-word.ensures.value in (
-      rw length-map (omega arith),
-      (c.in-Some.packets, subst (λ (t : List ℕ). Names t c.in-Some.packets) packets c.in-Some.ensures),
-      text_at words 2 c.index-words-2.result c.as_str-word-2.result.now (omega arith) c.index-words-2.is c.as_str-word-2.ensures.value,
-      c.in_default-number.ensures,
-    )
-
-pub returns-in-Err : goal.returns-in-Err
-returns-in-Err c =
-    let words = c.args.words.now in
-    let packets = text_at words 1 c.index-words-1.result c.as_str-word.result.now (omega arith) c.index-words-1.is c.as_str-word.ensures.value in
-    let count = text_at words 2 c.index-words-2.result c.as_str-word-2.result.now (omega arith) c.index-words-2.is c.as_str-word-2.ensures.value in
-    wrong_changes (map string_bytes words) c.in-Err.misuse
+    let texts : List (List ℕ) = map string_bytes words in
+    let packets : Names (get_or texts 1 []) c.in_ok-packets.packets = search rules in
+    let count : Number (2 ^ 32) (get_or texts 2 []) c.in_ok-count.count = search rules in
+    let long : 4 ≤ length texts = search rules in
+    let p = err_from_is_err_and c.from_residual-in_err-pairs.result c.from_residual-in_err-pairs.ensures.1 in
+    rw (p.1, p.2)
+    (wrong_changes texts _
     record {
-      enough = rw length-map (omega arith);
-      packets = c.in-Some.packets;
-      packets_are = subst (λ (t : List ℕ). Names t c.in-Some.packets) packets c.in-Some.ensures;
-      count = c.in-Some-number.count;
-      count_is = subst (λ (t : List ℕ). Number (2 ^ 32) t c.in-Some-number.count) count c.in-Some-number.ensures;
+      enough = long;
+      packets = c.in_ok-packets.packets;
+      packets_are = packets;
+      count = c.in_ok-count.count;
+      count_is = count;
     }
-    (subst (λ (l : List (List ℕ)). WrongChanges l c.in-Err.misuse) (texts_from words 4) c.in-Err.ensures)
-
-pub returns-in-Ok : goal.returns-in-Ok
-returns-in-Ok c =
-    let words = c.args.words.now in
-    let packets = text_at words 1 c.index-words-1.result c.as_str-word.result.now (omega arith) c.index-words-1.is c.as_str-word.ensures.value in
-    let count = text_at words 2 c.index-words-2.result c.as_str-word-2.result.now (omega arith) c.index-words-2.is c.as_str-word-2.ensures.value in
-    record {
-      enough = rw length-map (omega arith);
-      plan_is = text_at words 0 c.index-words-0.result c.as_str.result.now (omega arith) c.index-words-0.is c.as_str.ensures.value;
-      packets_are = subst (λ (t : List ℕ). Names t c.in-Some.packets) packets c.in-Some.ensures;
-      count_is = subst (λ (t : List ℕ). Number (2 ^ 32) t c.in-Some-number.count) count c.in-Some-number.ensures;
-      out_is = text_at words 3 c.index-words-3.result c.as_str-in-Ok.result.now (omega arith) c.index-words-3.is c.as_str-in-Ok.ensures.value;
-      changes_are = subst (λ (l : List (List ℕ)). Changes l (vec_items c.in-Ok.changes)) (texts_from words 4) c.in-Ok.ensures;
-    }
+    (subst (λ (l : List (List ℕ)). WrongChanges l c.in_err-pairs.field-0.0) (texts_from words 4) c.in_err-pairs.ensures))

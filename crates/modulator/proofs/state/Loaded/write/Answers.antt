@@ -1,4 +1,5 @@
-use Rattle.std.proofs.Common.{◌≡◌, ℕ, List, Ok, Err, Result, arith, MatchResult}
+use Rattle.std.proofs.Common.{length, ◌*◌, ap, ◌≡◌, ℕ, List, Ok, Err, Result, arith, MatchResult}
+use Rattle.std.specs.List.{flat_map}
 use Rattle.slot_plan.specs.declared.fields.Fields.{Fields}
 use Rattle.super_frame.specs.Carried.{Fits, Written}
 use Rattle.modulator.proofs.Finished.{finished}
@@ -13,7 +14,13 @@ done p tmcc packets before out (Err _) fits cases = absurd (cases.0 fits)
 
 pub returns : goal.returns
 returns g c =
-    finished c.args.plan.now.fields (g.F.Feed.lists c.args.feed.now) (g.F.Feed.lists c.take_packets.new.feed)
-    c.take_packets.new.packets c.take_packets.ensures c.args.self.now c.word-tmcc.result c.write.new.out c.requires.kept
-    c.word-tmcc.ensures.word (done c.args.plan.now.fields c.word-tmcc.result c.take_packets.new.packets c.args.out.now c.write.new.out
-    c.write.result (omega arith, omega arith) c.write.ensures)
+    let p = c.args.plan.now.fields in
+    let packets = c.take_packets.new.packets in
+    let out = c.write.new.out in
+    let long : length packets ≡ 8 * p.slots = omega (arith, c.take_packets.auto.packets, c.requires.room) in
+    let whole : length (flat_map (λ x. x) packets) ≡ 188 * (8 * p.slots) =
+    omega (arith, c.as_flattened.ensures.len, long, ap (λ (xs : List ℕ). length xs) c.as_flattened.ensures.value) in
+    let answered = rw c.as_flattened.ensures.value at c.write.ensures.written in
+    finished p (g.F.Feed.lists c.args.feed.now) (g.F.Feed.lists c.take_packets.new.feed) packets c.take_packets.ensures.taken long
+    c.take_packets.ensures.rows c.args.self.now c.word-tmcc.result out c.requires.kept c.word-tmcc.ensures.word
+    (done p c.word-tmcc.result (flat_map (λ x. x) packets) c.args.out.now out c.write.result (whole, c.requires.size) answered)

@@ -21,8 +21,3 @@ invariant_of-result c =
     let kept = keeps f c.first-order.result.value c.data-data.result c.slots.result c.pack.result
     c.first-order.ensures c.slots.ensures.value c.data-data.ensures.holds c.pack.ensures.run in
     record { keeps = ∣ (c.pack.ensures.len, c.pack.ensures.fit, (f, kept, plan_valid c.args.plan.now)) ∣₁ }
-
-pub returns : goal.returns
-returns c =
-    keeps c.args.plan.now.fields c.first-order.result.value c.data-data.result c.slots.result c.pack.result
-    c.first-order.ensures c.slots.ensures.value c.data-data.ensures.holds c.pack.ensures.run

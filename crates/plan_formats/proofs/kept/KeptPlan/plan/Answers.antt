@@ -1,32 +1,41 @@
-use Rattle.std.proofs.Common.{◌≡◌, ℕ, sym, ◌∙◌, subst}
+use Rattle.std.proofs.Common.{◌≡◌, ℕ, List, Result, Ok, Err, IsOk, length, refl, sym, ◌∙◌, subst}
 use mathlib.Core.Logic.{∥∥₁_elim}
-use std.HLevel.{⊥_prop}
 use denote.Struct.Props.{props}
 use Rattle.slot_plan.specs.Rules.{Passes}
+use Rattle.slot_plan.specs.declared.fault.PlanFault.{PlanFault}
 use Rattle.slot_plan.specs.declared.fields.Fields.{Fields}
+use Rattle.plan_formats.specs.Bits.{front}
+use Rattle.plan_formats.specs.Body.{numbers, Run}
+use Rattle.plan_formats.specs.Calls.{Unpacked}
 use Rattle.plan_formats.specs.Formats.{TmccData}
-use Rattle.plan_formats.specs.Kept.{Keeps}
+use Rattle.plan_formats.specs.Kept.{Keeps, KeepsSome}
+use Rattle.plan_formats.specs.declared.tmcc.Tmcc.{Tmcc}
 use Rattle.plan_formats.proofs.Recovered.{tmcc_same}
 use Rattle.plan_formats.proofs.Stowed.{kept_data, data_keeps}
 use Rattle.plan_formats.proofs.kept.KeptPlan.plan.Goals as goal
 
-pub unreachable-requires : goal.unreachable-requires
-unreachable-requires c =
-    let k = c.args.self.now in
-    let bytes = c.unpack-data.result in
-    let u = c.in-Err.ensures.read in
-    ∥∥₁_elim k.keeps ⊥_prop
-    (λ some.
+-- reading cannot fail where what was packed is a plan
+is_read :
+    (bytes : List ℕ) (slots : ℕ) (packed : List ℕ) (r : Result Tmcc PlanFault) → KeepsSome slots packed → length bytes ≡ 48 →
+    Run 0 0 (numbers 64 packed) (front bytes 384) 384 → Unpacked bytes slots r → IsOk r
+is_read bytes slots packed (Ok t) some len run u = refl
+is_read bytes slots packed (Err e) some len run u =
     let f = some.2.0 in
-    let own = kept_data bytes k.slots k.packed f some.2.1 c.unpack-data.ensures.len c.unpack-data.ensures.run in
-    let same = tmcc_same bytes k.slots u.order 0 u.fields f u.states own in
-    u.answer.fails (subst (λ (g : Fields). Passes g c.in-Err.field-0) (sym same.1) (some.2.2 c.in-Err.field-0)))
+    let own = kept_data bytes slots packed f some.2.1 len run in
+    let same = tmcc_same bytes slots u.order 0 u.fields f u.states own in
+    absurd (u.answer.fails (subst (λ (g : Fields). Passes g e) (sym same.1) (some.2.2 e)))
+
+pub unwrap-requires : goal.unwrap-requires
+unwrap-requires c =
+    let k = c.args.self.now in
+    ∥∥₁_elim k.keeps (hlevel props)
+    (λ some. is_read c.unpack-data.result k.slots k.packed c.read.result some c.unpack-data.ensures.len c.unpack-data.ensures.run c.read.ensures.read)
 
 pub returns : goal.returns
 returns c =
     let k = c.args.self.now in
     let bytes = c.unpack-data.result in
-    let u = c.in-Ok.ensures.read in
+    let u = rw c.unwrap.ensures at c.read.ensures.read in
     let zero : u.order ≡ 0 =
     ∥∥₁_elim k.keeps (hlevel props)
     (λ some.

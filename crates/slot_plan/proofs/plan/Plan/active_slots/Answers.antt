@@ -1,22 +1,29 @@
-use Rattle.std.proofs.Common.{◌≡◌, ℕ, ◌+◌, ◌-◌, ap, ◌∙◌, arith}
-use Rattle.slot_plan.specs.Views.{active_up_to}
-use Rattle.slot_plan.proofs.Counted.{counted, bool_byte_le}
+use Rattle.std.proofs.Common.{rules, tests, arith, ◌∙◌}
+use Rattle.std.proofs.lemmas.Iterator.{YieldsList-from_map}
+use Rattle.std.proofs.lemmas.Iterator.Adapters.{fits_from_length, at_most_from_yields_List}
+use Rattle.std.proofs.lemmas.Iterator.Consumers.{YieldsList-at, sum_from_yields_List}
+use Rattle.std.proofs.lemmas.List.FromFn.{length-range_with_len}
+use Rattle.slot_plan.proofs.Counted.{one, counted, byte_is, byte_le}
+use Rattle.slot_plan.proofs.Numbers.{YieldsList-from_inclusive}
 use Rattle.slot_plan.proofs.plan.Plan.active_slots.Goals as goal
 
-pub loop-slot-preserved : goal.loop-slot-preserved
-loop-slot-preserved c =
-    let f = c.args.self.now.fields in
-    let l = c.loop-slot in
-    let at : l.slot ≡ l.slot + 1 - 1 = omega arith in (
-      counted f l.slot l.active c.from-active.result c.is_active.result l.auto.slot l.invariant.0 c.from-active.ensures c.is_active.ensures
-          ∙ ap (λ (n : ℕ). active_up_to f n) at,
-      omega (arith, bool_byte_le c.is_active.result c.from-active.result c.from-active.ensures),
-    )
+pub sum-requires-clause-fits : goal.sum-requires-clause-fits
+sum-requires-clause-fits c =
+    let n = c.args.self.now.fields.slots in
+    fits_from_length _ _ 48 _
+    (at_most_from_yields_List
+    (YieldsList-at c.map.ensures.source
+    (YieldsList-from_inclusive 1 n n c.new.ensures.start (c.new.ensures.end ∙ c.slots.ensures.value) c.new.ensures.exhausted (omega arith)))
+    (omega (arith, length-range_with_len 1 n, c.slots.ensures.value, c.slots.ensures.bound.1)))
+    c.map.ensures.closure (omega arith) (λ x r q k. search (rules, tests, byte_le))
 
-pub returns-2 : goal.returns-2
-returns-2 c =
+pub returns : goal.returns
+returns c =
     let f = c.args.self.now.fields in
-    let l = c.loop-slot in
-    let at : l.slot ≡ f.slots = omega arith in
-    counted f l.slot l.active c.from-active.result c.is_active.result l.auto.slot l.invariant.0 c.from-active.ensures c.is_active.ensures
-    ∙ ap (λ (n : ℕ). active_up_to f n) at
+    let n = f.slots in
+    sum_from_yields_List c.map.result c.sum.result c.sum.ensures.ran
+    (YieldsList-from_map _ (one f)
+    (YieldsList-at c.map.ensures.source
+    (YieldsList-from_inclusive 1 n n c.new.ensures.start (c.new.ensures.end ∙ c.slots.ensures.value) c.new.ensures.exhausted (omega arith)))
+    c.map.ensures.closure (λ x r q k. search (rules, byte_is)))
+    ∙ counted f n

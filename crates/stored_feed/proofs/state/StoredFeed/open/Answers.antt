@@ -1,16 +1,24 @@
-use Rattle.std.proofs.Common.{ℕ, length, sym, refl, ap, ◌∙◌, arith}
-use Rattle.stored_feed.specs.Files.{packets_from}
+use Rattle.std.proofs.Common.{sym, ◌∙◌, arith, rules}
 use Rattle.stored_feed.specs.declared.fault.PacketFileFault.TheVariants.{Length, Record}
-use Rattle.stored_feed.proofs.Zeros.{zeros_at}
+use Rattle.stored_feed.proofs.Begun.{Begun, begun_counted}
+use Rattle.stored_feed.proofs.Moved.{start}
 use Rattle.stored_feed.proofs.state.StoredFeed.open.Goals as goal
 
-pub invariant_of-self : goal.invariant_of-self
-invariant_of-self c =
-    let file = c.args.file.now in
+begun : (c : goal.After-map) → Begun c.count.result c.map.result
+begun c =
     record {
-      shaped = (refl, c.count.ensures.streams);
+      long = c.map.ensures.items.long ∙ sym c.count.ensures.streams;
+      each = λ i within.
+          let made = c.map.ensures.items.at i 0 start (omega (arith, within, c.count.ensures.streams)) in
+          search rules;
+    }
+
+pub invariant_of-result : goal.invariant_of-result
+invariant_of-result c =
+    record {
+      streams = c.map.ensures.items.long;
       bytes = λ k. omega (arith, c.type_inv.file k);
       short = (c.in_ok-check.ensures Length).1;
       sound = c.in_ok-check.ensures Record;
-      counted = λ r. c.count.ensures.counted r ∙ ap (λ (n : ℕ). length (packets_from file r n)) (sym (zeros_at 8 r));
+      counted = begun_counted c.count.result c.map.result (begun c) c.args.file.now c.count.ensures.counted;
     }

@@ -1,6 +1,0 @@
-use Rattle.std.proofs.Common.{replicate, refl}
-use Rattle.plan_formats.proofs.Joins.{zeros_at}
-use Rattle.plan_formats.proofs.body.no_streams.Goals as goal
-
-pub returns : goal.returns
-returns c = record { len = refl; zeros = zeros_at (replicate 48 0) tt }

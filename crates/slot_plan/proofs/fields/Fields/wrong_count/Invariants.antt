@@ -1,6 +1,0 @@
-use Rattle.std.proofs.Common.{ℕ, ◌<◌, ◌≤◌}
-use Rattle.slot_plan.specs.Rules.{CountRule}
-use Rattle.slot_plan.proofs.fields.Fields.wrong_count.Given as goal
-
-abbrev pub invariant-loop-line : goal.invariant-loop-line
-invariant-loop-line l = (k : ℕ) → 1 ≤ k → k < l.line → CountRule l.self k
