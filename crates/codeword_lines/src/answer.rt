@@ -9,6 +9,7 @@ use std::alloc::{AllocError, Global};
 use std::fmt;
 
 // A codeword, why there is none of the kind that was asked for, or that the line is no request.
+// An enum of its own, since all three are printed, and a `Result` has no `Display`.
 #[derive(PartialEq, Eq, Debug, Drop)]
 pub enum Answer {
     Word(Vec<u8>),

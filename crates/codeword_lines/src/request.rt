@@ -65,7 +65,7 @@ fn digits(text: &[u8]) -> usize
         .unwrap_or(text.len())
 }
 
-// The number that decimal digits write, or 255 where it is larger.
+// The number that decimal digits write, or 255 where it is larger. Not by `parse`, which refuses a larger one.
 fn number(digits: &[u8]) -> u8
     ensures { result ≡ min (number_from 0 digits.now) 255 }
 {

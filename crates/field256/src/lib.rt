@@ -26,7 +26,7 @@ pub fn sum(a: u8, b: u8) -> u8
 }
 
 // The product of two elements, by their logarithms: where one is zero, the sum is past the powers.
-// Not by `log`: with its tests for zero a word with eight errors is corrected in 1.52 µs, without them in 1.30 µs.
+// Not by `log`, since with its tests for zero a word with eight errors takes a sixth longer to correct.
 pub fn product(a: u8, b: u8) -> u8
     ensures { result ≡ times a b }
 {

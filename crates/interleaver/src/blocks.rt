@@ -20,7 +20,7 @@ const WRONG_LENGTH: u8 = 8;
 pub struct WrongLength;
 
 impl WrongLength {
-    // The refusal's number.
+    // The refusal's number, as programs print it and callers from C get it.
     pub fn number(self) -> u8
         ensures { result ≡ 8 }
     {

@@ -12,7 +12,7 @@ pub const MOST: usize = 16;
 const REACH: usize = 255;
 
 // Places of a word of some length: the first of the list, as many as the count says, in order.
-// An array with its count, since pushing just the places found has to guess at each: correcting eight errors took 6 % longer.
+// An array with its count, since pushing just the places found has to guess at each: correcting eight errors takes 6 % longer.
 #[derive(Clone, Copy)]
 pub struct Places {
     pub len: usize,

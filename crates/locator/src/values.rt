@@ -36,7 +36,7 @@ impl Polynomial<TERMS> {
 }
 
 // Multiplies a polynomial by y less x.
-// In place, since a polynomial that is handed on by value is copied at each place: correcting eight errors took 4 % longer.
+// In place, since a polynomial that is handed on by value is copied at each place: correcting eight errors takes 4 % longer.
 fn widen(p: &mut [u8; TERMS], degree: usize, x: u8)
     requires shape { OfDegree 17 degree p.old }
     requires room { degree < 16 }

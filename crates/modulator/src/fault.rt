@@ -13,7 +13,7 @@ pub enum ModulatorFault {
 }
 
 impl ModulatorFault {
-    // The refusal's number.
+    // The refusal's number, as programs print it and callers from C get it.
     pub fn number(self) -> u8
         ensures { result ≡ number self }
     {

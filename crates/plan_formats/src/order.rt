@@ -12,7 +12,7 @@ pub struct Order {
 }
 
 impl Order {
-    // The order of change with this number, which is 0 to 31: an Option as of NonZeroU8::new, since there is no more to say of another.
+    // The order of change with this number, which is 0 to 31, and none for any other, as NonZeroU8::new has it: there is no more to say of another.
     pub fn new(value: u8) -> Option<Order>
         ensures { MatchOption result (32 ≤ value) (λ o. o.value ≡ value) }
     {

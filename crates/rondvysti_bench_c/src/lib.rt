@@ -1,4 +1,5 @@
 // Calls for C that are measured beside other code: the outer code on slot words, and whole super-frames.
+// Each hands on to the library's of the same name, since no crate can stand on a static library.
 #![tactic(auto)]
 
 ghost use Rattle.outer_code.specs.Faults.{answer_number};

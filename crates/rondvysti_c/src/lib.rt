@@ -1,4 +1,5 @@
 // Rondvysti for C: the calls of the rack's control program.
+// Each hands on to the library's of the same name, since no crate can stand on a static library.
 #![tactic(auto)]
 
 ghost use Rattle.outer_code.specs.Faults.{answer_number};

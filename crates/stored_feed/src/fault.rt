@@ -11,7 +11,7 @@ pub enum PacketFileFault {
 }
 
 impl PacketFileFault {
-    // The refusal's number.
+    // The refusal's number, as programs print it and callers from C get it.
     pub fn number(self) -> u8
         ensures { result ≡ number self }
     {

@@ -27,8 +27,7 @@ impl<'a, T: Element> Frames<'a, T> {
     }
 
     // Gathers the parts of a slot into the rows of a block. The block is a slice, since an array of a type parameter owes at each call that it is
-    // smaller than 2 ^ 63 bytes, which stayed open. The frames are counted, here and in the other loops over them, since it is by its number that
-    // a frame's part is found.
+    // smaller than 2 ^ 63 bytes, which no caller here can show. The frames are counted, since it is by its number that a frame's part is found.
     pub(crate) fn gather(&self, slot: u8, block: &mut [T])
         requires { (slot < self.now.slots) × (length block.old ≡ 1624) }
         ensures { Gathered T.Element.idle self.now.slots slot self.now.elements.now block.new }

@@ -23,7 +23,7 @@ fn take_off(words: &mut [u8], start: usize, sequence: &mut Sequence)
 }
 
 // Takes the sequence off all words. By their places, since of a slice that `chunks_exact_mut` or `as_chunks_mut` has lent out, or that is split
-// in a loop, a proof knows only the length afterwards: that each word is `Off` the sequence stayed open.
+// in a loop, a proof knows only the length afterwards, so that each word is `Off` the sequence could not be proved.
 fn take_sequence_off(words: &mut [u8])
     ensures { OffWords (length words.old / 204) words.old words.new }
 {

@@ -5,7 +5,7 @@ use plan_formats::{FileFault, read_plan};
 use run_inputs::Change;
 use slot_plan::Plan;
 
-// What a plan file states: a plan, or why not. The refusal is a number and no fault, since a run tells whatever number it is given.
+// What a plan file states: a plan, or why not. The refusal is a number and no fault, since a run takes and tells every number, and an enum would leave some out.
 pub type Stated = Result<Plan, u8>;
 
 // What is to be installed, and the super-frame that it comes before.

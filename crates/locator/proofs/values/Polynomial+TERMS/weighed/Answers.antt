@@ -91,6 +91,6 @@ returns c some =
     = rw end at inv.paired ∙ dot_paired q s ∙ ap (λ (k : ℕ). paired k q s 0) long in
     ap (times c.unwrap_or.result) (sym value) ∙ divided _ _ _ _ c.quotient.ensures c.unwrap_or.ensures (λ z. some (sym value ∙ z)) ∙ whole
   where
-    divided : (o : Option ℕ) (a b r : ℕ) → MatchOption o (b ≡ 0) (λ q. times q b ≡ a) → r ≡ unwrap_or o 0 → b ≢ 0 → times r b ≡ a
+    divided : (o : Option ℕ) (a b r : ℕ) → MatchOption o (b ≡ 0) (λ q. (b ≢ 0) × (times q b ≡ a)) → r ≡ unwrap_or o 0 → b ≢ 0 → times r b ≡ a
     divided None a b r zero e other = absurd (other zero)
-    divided (Some q) a b r is e other = rw e is
+    divided (Some q) a b r is e other = rw e is.1
