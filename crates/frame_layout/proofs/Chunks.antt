@@ -1,15 +1,12 @@
--- A slice in chunks of one size, and the numbers that count them: which items come. Assumes nothing.
-use Rattle.std.proofs.Common.{◌≡◌, ℕ, zero, suc, ◌+◌, ◌-◌, ◌*◌, ◌/◌, ◌<◌, ◌≤◌, Bool, true, false, List, [], ◌∷◌, ◌++◌, length, get_or, take, drop, sym, refl, ap, ◌∙◌, subst, add-one, add-zero, mul-le-mul_right, arith}
+-- A slice in chunks of one size: which items come. Assumes nothing.
+use Rattle.std.proofs.Common.{◌≡◌, ℕ, zero, suc, ◌+◌, ◌*◌, ◌/◌, ◌<◌, ◌≤◌, List, [], ◌∷◌, ◌++◌, length, get_or, take, drop, sym, refl, ap, ◌∙◌, subst, add-zero, mul-le-mul_right, arith}
 use Rattle.std.proofs.Math.Nat.{add-div_left}
 use Rattle.std.proofs.lemmas.Nat.{div_below, div-mul-add}
 use Rattle.std.proofs.lemmas.List.{take_at, drop_at, drop-drop, length-append, length-take-le, length-drop, get_or-take, get_or-drop}
-use Rattle.std.proofs.lemmas.List.FromFn.{length-range_with_len}
 use Rattle.std.specs.Simd.{first_chunks}
-use Rattle.std.specs.List.{range_with_len}
 use Rattle.std.proofs.lemmas.Iterator.{YieldsList}
 use Rattle.std.proofs.lemmas.Iterator.Splits.{YieldsList-from_shown_while}
 use Rattle.std.specs.Slice.Iter.{chunks_exact_steps, chunks_exact_rest, chunks_exact_size}
-use Rattle.std.specs.Range.{range_inclusive_start, range_inclusive_end, range_inclusive_exhausted, range_inclusive_steps, range_inclusive_left, range_inclusive_len}
 
 pub length_first_chunks : {X : Type 0} (n k : ℕ) (xs : List X) → length (first_chunks n k xs) ≡ k
 length_first_chunks n zero xs = refl
@@ -71,26 +68,3 @@ chunks_road {s = s} n xs some size rest =
       ap (λ ys. chunks n ys) k.1.0 ∙ one_more n x.now (chunks_exact_rest u) some (k.1.1 ∙ h),
     ))
     s size)
-
--- the numbers after one number, by whether it was the last
-rest_of : (b : Bool) (start end next n : ℕ) → range_inclusive_len (λ x y. y - x) next end b ≡ n → (b ≡ false → next ≡ start + 1) → range_with_len (start + 1) n ≡ range_with_len next n
-rest_of true start end next n e h = ap (range_with_len (start + 1)) (sym e) ∙ ap (range_with_len next) e
-rest_of false start end next n e h = ap (λ (a : ℕ). range_with_len a n) (sym (h refl))
-
--- what a range of numbers with its end gives
-pub numbers_road : {s : _} (a n : ℕ) → range_inclusive_exhausted s ≡ false → range_inclusive_start s ≡ a → range_inclusive_end s + 1 ≡ a + n → YieldsList (range_inclusive_steps (λ x y. y - x) (λ x y. y ≡ x + 1)) (λ x. x) s (range_with_len a n)
-numbers_road {s = s} a n fresh start end =
-    let left : range_inclusive_left (λ x y. y - x) s ≡ n =
-    ap (λ b. range_inclusive_len (λ x y. y - x) (range_inclusive_start s) (range_inclusive_end s) b) fresh ∙ omega (arith, start, end) in
-    subst (λ (b : ℕ). YieldsList (range_inclusive_steps (λ x y. y - x) (λ x y. y ≡ x + 1)) (λ x. x) s (range_with_len b n)) start
-    (subst (λ (m : ℕ). YieldsList (range_inclusive_steps (λ x y. y - x) (λ x y. y ≡ x + 1)) (λ x. x) s (range_with_len (range_inclusive_start s) m)) left
-    (YieldsList-from_shown_while (range_inclusive_steps (λ x y. y - x) (λ x y. y ≡ x + 1)) (λ x. x)
-    (λ t. range_with_len (range_inclusive_start t) (range_inclusive_left (λ x y. y - x) t)) (λ t. Unit {0})
-    (λ t u _ k. length-range_with_len (range_inclusive_start t) (range_inclusive_left (λ x y. y - x) t) ∙ k.1.0)
-    (λ t x u _ k. (
-      tt,
-      ap (range_with_len (range_inclusive_start t)) (sym k.1.1 ∙ add-one (range_inclusive_left (λ x y. y - x) u))
-          ∙ (ap (λ (y : ℕ). y ∷ range_with_len (range_inclusive_start t + 1) (range_inclusive_left (λ x y. y - x) u)) (sym k.1.0)
-          ∙ ap (λ ys. x ∷ ys) (rest_of (range_inclusive_exhausted u) (range_inclusive_start t) (range_inclusive_end u) (range_inclusive_start u) (range_inclusive_left (λ x y. y - x) u) refl k.1.2)),
-    ))
-    s tt))

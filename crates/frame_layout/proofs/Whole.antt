@@ -1,13 +1,11 @@
 -- Frame marks by the frames, and how many of the frames have their own marks. Assumes nothing.
-use Rattle.std.proofs.Common.{◌≡◌, ℕ, zero, suc, ◌+◌, ◌-◌, ◌*◌, ◌/◌, ◌%◌, ◌<◌, ◌≤◌, Bool, cond, ◌&&◌, eqb, List, [], length, get_or, take, drop, sym, refl, ap, ◌∙◌, add-one, mul-le-mul_right, arith}
-use Rattle.std.proofs.lemmas.List.{get_or-take, get_or-drop, get_or_default, take_all}
+use Rattle.std.proofs.Common.{◌≡◌, ℕ, zero, suc, ◌+◌, ◌-◌, ◌*◌, ◌/◌, ◌%◌, ◌<◌, ◌≤◌, Bool, cond, ◌&&◌, eqb, List, length, get_or, take, drop, sym, refl, ap, ◌∙◌, add-one, mul-le-mul_right, arith}
+use Rattle.std.proofs.lemmas.List.{get_or-take, get_or-drop, take_all}
 use Rattle.std.proofs.lemmas.List.FromFn.{length-range_with_len, get_or-range_with_len}
 use Rattle.std.proofs.lemmas.List.Filters.{length-filter_more}
-use Rattle.std.proofs.lemmas.Slice.Zip.{get_or-zip, length-zip}
-use Rattle.std.specs.List.{zip, filter, range_with_len}
+use Rattle.std.specs.List.{filter, range_with_len}
 use Rattle.frame_layout.specs.Layout.{frame_size, super_size, W1, own}
 use Rattle.frame_layout.specs.Marks.{stands, marked, whole_up_to}
-use Rattle.frame_layout.proofs.Chunks.{chunks, chunks_long, chunk_is, chunk_long}
 
 -- a byte of a part is the byte of the whole
 part_byte : (xs : List ℕ) (at n i j : ℕ) → i < n → at + i ≡ j → get_or (take n (drop at xs)) i 0 ≡ get_or xs j 0
@@ -40,47 +38,28 @@ whole_from slots stream place (suc n) h =
     ap (λ (k : ℕ). k + cond (marked (take (super_size slots) (drop place stream)) (0 + before * F) (own (suc n))) 1 0) (whole_from slots stream place n (omega arith))
     ∙ ap (λ b. whole_up_to slots stream place n + cond b 1 0) here
 
--- whether a frame has its own mark
-abbrev pub has_mark : List ℕ × ℕ → Bool
-has_mark p = marked p.0 0 (own p.1)
+-- whether a frame, counted from 0, has its own mark
+abbrev pub has_mark : ℕ → List ℕ → ℕ → Bool
+has_mark slots frames n = marked frames (n * frame_size slots) (own (n + 1))
 
-module _ (slots : ℕ) (frames : List ℕ) (full : length frames ≡ super_size slots) where
-  -- each frame with its number
-  abbrev pub numbered : List (List ℕ × ℕ)
-  numbered = zip (chunks (frame_size slots) frames) (range_with_len 1 8)
-
-  eight : length (chunks (frame_size slots) frames) ≡ 8
-  eight = chunks_long (frame_size slots) 8 frames (omega arith) full
-
-  pub frame_at : (n : ℕ) (d : List ℕ × ℕ) → n < 8 → get_or numbered n d ≡ (get_or (chunks (frame_size slots) frames) n [], 1 + n)
-  frame_at n d h =
-      let all = chunks (frame_size slots) frames in
-      let inside : n < length all = omega (arith, eight) in
-      get_or-zip all (range_with_len 1 8) n d inside (omega (arith, length-range_with_len 1 8))
-      ∙ (ap (λ x. (x, get_or (range_with_len 1 8) n d.1)) (get_or_default all n d.0 [] inside)
-      ∙ ap (λ (y : ℕ). (get_or all n [], y)) (get_or-range_with_len 1 8 n d.1 h))
-
-  pub frame_long : (n : ℕ) → n < 8 → length (get_or (chunks (frame_size slots) frames) n []) ≡ frame_size slots
-  frame_long n h = chunk_long (frame_size slots) 8 frames (omega arith) full n (get_or (chunks (frame_size slots) frames) n []) h refl
-
-  pub long : length numbered ≡ 8
-  long = length-zip (chunks (frame_size slots) frames) (range_with_len 1 8) ∙ omega (arith, eight, length-range_with_len 1 8)
-
-  counted : (n : ℕ) → n ≤ 8 → length (filter has_mark (take n numbered)) ≡ whole_up_to slots frames 0 n
+module _ (slots : ℕ) (frames : List ℕ) where
+  counted : (n : ℕ) → n ≤ 8 → length (filter (has_mark slots frames) (take n (range_with_len 0 8))) ≡ whole_up_to slots frames 0 n
   unfolding whole_up_to
   counted zero h = refl
   counted (suc n) h =
+      let numbers = range_with_len 0 8 in
       let F = frame_size slots in
-      let same : (suc n - 1) * F ≡ n * F = ap (λ (k : ℕ). k * F) (omega arith) in
-      let at : has_mark (get_or numbered n ([], 0)) ≡ marked frames (0 + (suc n - 1) * F) (own (suc n)) =
-      ap has_mark (frame_at n ([], 0) (omega arith))
-      ∙ (ap (λ ys. marked ys 0 (own (1 + n))) (chunk_is F 8 frames (omega arith) full n (get_or (chunks F frames) n []) (omega arith) refl)
-      ∙ (marked_part frames (F * n) F 0 (0 + (suc n - 1) * F) (own (1 + n)) (omega arith) (omega (arith, same))
-      ∙ ap (λ (f : ℕ). marked frames (0 + (suc n - 1) * F) (own f)) (omega arith))) in
-      ap (λ (k : ℕ). length (filter has_mark (take k numbered))) (sym (add-one n))
-      ∙ (length-filter_more has_mark numbered n ([], 0) (omega (arith, long))
-      ∙ (ap (λ (k : ℕ). k + cond (has_mark (get_or numbered n ([], 0))) 1 0) (counted n (omega arith))
-      ∙ ap (λ b. whole_up_to slots frames 0 n + cond b 1 0) at))
+      let same : (0 + n) * F ≡ (suc n - 1) * F = ap (λ (k : ℕ). k * F) (omega arith) in
+      let place : (0 + n) * F ≡ 0 + (suc n - 1) * F = omega (arith, same) in
+      let own_is : has_mark slots frames (get_or numbers n 0) ≡ marked frames (0 + (suc n - 1) * F) (own (suc n)) =
+      ap (has_mark slots frames) (get_or-range_with_len 0 8 n 0 (omega arith))
+      ∙ (ap (λ (k : ℕ). marked frames k (own (0 + n + 1))) place
+      ∙ ap (λ (k : ℕ). marked frames (0 + (suc n - 1) * F) (own k)) (omega arith)) in
+      ap (λ (k : ℕ). length (filter (has_mark slots frames) (take k numbers))) (sym (add-one n))
+      ∙ (length-filter_more (has_mark slots frames) numbers n 0 (omega (arith, length-range_with_len 0 8))
+      ∙ (ap (λ (k : ℕ). k + cond (has_mark slots frames (get_or numbers n 0)) 1 0) (counted n (omega arith))
+      ∙ ap (λ b. whole_up_to slots frames 0 n + cond b 1 0) own_is))
 
-  pub all_counted : length (filter has_mark numbered) ≡ whole_up_to slots frames 0 8
-  all_counted = ap (λ ps. length (filter has_mark ps)) (sym (take_all 8 numbered (omega (arith, long)))) ∙ counted 8 (omega arith)
+  -- how many of all frames have theirs
+  pub all_counted : length (filter (has_mark slots frames) (range_with_len 0 8)) ≡ whole_up_to slots frames 0 8
+  all_counted = ap (λ ns. length (filter (has_mark slots frames) ns)) (sym (take_all 8 (range_with_len 0 8) (omega (arith, length-range_with_len 0 8)))) ∙ counted 8 (omega arith)

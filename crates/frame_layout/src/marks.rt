@@ -30,31 +30,30 @@ pub fn own_word(frame: u8) -> u16
 // The frame whose head ends with W2.
 const FIRST: u8 = 1;
 
-// Whether a sync word stands at a place of a frame.
-fn stands(frame: &[u8], place: usize, word: u16) -> bool
-    requires { place + 2 ≤ length frame.now }
-    ensures { result ≡ stands frame.now place word }
+// Whether a sync word stands at a place of some frames.
+fn stands(frames: &[u8], place: usize, word: u16) -> bool
+    requires { place + 2 ≤ length frames.now }
+    ensures { result ≡ stands frames.now place word }
 {
-    u16::from_be_bytes([frame[place], frame[place + 1]]) == word
+    u16::from_be_bytes([frames[place], frames[place + 1]]) == word
 }
 
-// Whether W1 and this second sync word make a frame mark at the beginning of a frame.
-fn marked(frame: &[u8], word: u16) -> bool
-    requires { 12 ≤ length frame.now }
-    ensures { result ≡ marked frame.now 0 word }
+// Whether W1 and this second sync word make a frame mark at a place of some frames.
+fn marked(frames: &[u8], place: usize, word: u16) -> bool
+    requires { place + 12 ≤ length frames.now }
+    ensures { result ≡ marked frames.now place word }
 {
-    stands(frame, 0, W1) && stands(frame, SECOND, word)
+    stands(frames, place, W1) && stands(frames, place + SECOND, word)
 }
 
-// How many of the eight frames have their own marks.
+// How many of the eight frames have their own marks. By their places, since `chunks_exact` divides by the size at each call.
 fn whole_marks(frames: &[u8], slots: u8) -> usize
     requires { length frames.now ≡ super_size slots }
     ensures { result ≡ whole_up_to slots frames.now 0 8 }
 {
-    frames
-        .chunks_exact(frame_size(slots))
-        .zip(1..=FRAMES)
-        .filter(|(frame, number)| marked(frame, own_word(*number)))
+    let size = frame_size(slots);
+    (0..FRAMES)
+        .filter(|passed| marked(frames, usize::from(*passed) * size, own_word(*passed + 1)))
         .count()
 }
 

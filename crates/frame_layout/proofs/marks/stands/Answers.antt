@@ -5,4 +5,4 @@ use Rattle.frame_layout.proofs.marks.stands.Goals as goal
 
 pub returns : goal.returns
 unfolding stands
-returns c = grind (arith, nat_tests, c.type_inv.frame c.args.place, c.type_inv.frame (c.args.place + 1))
+returns c = grind (arith, nat_tests, c.type_inv.frames c.args.place, c.type_inv.frames (c.args.place + 1))
