@@ -1,9 +1,6 @@
-use Rattle.std.proofs.Common.{◌≡◌, ◌++◌, length, vec_items}
-use Rattle.hexadecimal.specs.Hex.{Hex, unhexed}
+use Rattle.std.proofs.Common.{◌≡◌, ℕ, ◌<◌, get_or}
+use Rattle.hexadecimal.specs.Hex.{unhexed}
 use Rattle.hexadecimal.proofs.read.HexText.to_vec.Given as goal
 
-abbrev pub invariant-loop-rest : goal.invariant-loop-rest
-invariant-loop-rest l = Hex l.rest × (vec_items l.bytes ++ unhexed l.rest ≡ unhexed l.fn.self.digits.now)
-
-abbrev pub decreases-loop-rest : goal.decreases-loop-rest
-decreases-loop-rest l = length l.rest
+abbrev pub invariant-loop-k : goal.invariant-loop-k
+invariant-loop-k l = (i : ℕ) → i < l.k → get_or l.byte-items i 0 ≡ get_or (unhexed l.fn.self.digits.now) i 0
