@@ -9,6 +9,7 @@ use frame_layout::super_frame_size;
 use hexadecimal::{Hex, HexText};
 use packets::packets;
 use plan_formats::{Order, Tmcc, read_plan};
+use std::alloc::{AllocError, Global};
 use std::io::{BufRead, BufReader};
 use tmcc_word::word;
 
@@ -33,15 +34,27 @@ fn frame_bytes(rt: &HostRuntime, file: &[u8], order: u8, start: u16) -> anyhow::
     Ok(out)
 }
 
+// The bytes that pairs of digits in capitals write. Any other pair is passed over, and so is an odd character at the end.
+fn plan_bytes(heap: Global, text: &[u8]) -> Result<Vec<u8>, AllocError> {
+    let mut bytes = Vec::new(heap);
+    for pair in text.chunks_exact(2) {
+        let capitals = !pair.iter().any(|c| c.is_ascii_lowercase());
+        if let Some(digits) = HexText::new(pair)
+            && capitals
+        {
+            bytes.extend_from_slice(digits.to_vec(heap)?.as_slice())?;
+        }
+    }
+    Ok(bytes)
+}
+
 // Prints a case anew.
 fn answer(rt: &HostRuntime, case: &str) -> anyhow::Result<()> {
     let mut fields = case.split(' ');
     let plan = fields.next().context("no plan")?;
     let order = fields.next().context("no order")?;
     let start = fields.next().context("no start")?;
-    let file = HexText::new(plan.as_bytes())
-        .context("a plan that is not in hexadecimal digits")?
-        .to_vec(rt.alloc())?;
+    let file = plan_bytes(rt.alloc(), plan.as_bytes())?;
     let bytes = frame_bytes(
         rt,
         file.as_slice(),
