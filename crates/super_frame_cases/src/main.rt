@@ -1,6 +1,9 @@
 // Makes the super-frame of each case on standard input, and prints the case anew with its digests and its ends.
 #![tactic(auto)]
 
+ghost use Rattle.std.specs.Prelude.{◌≡◌, IfOk, vec_items};
+ghost use Rattle.super_frame_cases.specs.Pairs.{is_capital, read_pairs};
+
 mod packets;
 
 use anyhow::{Context, anyhow};
@@ -34,16 +37,25 @@ fn frame_bytes(rt: &HostRuntime, file: &[u8], order: u8, start: u16) -> anyhow::
     Ok(out)
 }
 
-// The bytes that pairs of digits in capitals write. Any other pair is passed over, and so is an odd character at the end.
-fn plan_bytes(heap: Global, text: &[u8]) -> Result<Vec<u8>, AllocError> {
+// Whether a character is a hexadecimal digit, a letter only in capitals.
+fn is_capital(c: u8) -> bool
+    ensures { result ≡ is_capital c }
+{
+    c.is_ascii_digit() || (b'A'..=b'F').contains(&c)
+}
+
+// The bytes of a plan's text: a pair that is not two digits in capitals is passed over, and so is a last character without a second.
+fn plan_bytes(heap: Global, text: &[u8]) -> Result<Vec<u8>, AllocError>
+    ensures { IfOk result (λ v. vec_items v ≡ read_pairs text.now) }
+{
     let mut bytes = Vec::new(heap);
-    for pair in text.chunks_exact(2) {
-        let capitals = !pair.iter().any(|c| c.is_ascii_lowercase());
-        if let Some(digits) = HexText::new(pair)
-            && capitals
-        {
+    let mut rest = text;
+    while let [high, low, others @ ..] = rest {
+        if is_capital(*high) && is_capital(*low) {
+            let digits = HexText::new(&rest[..2]).unwrap();
             bytes.extend_from_slice(digits.to_vec(heap)?.as_slice())?;
         }
+        rest = others;
     }
     Ok(bytes)
 }
