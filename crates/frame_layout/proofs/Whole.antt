@@ -1,11 +1,10 @@
 -- Frame marks by the frames, and how many of the frames have their own marks. Assumes nothing.
-use Rattle.std.proofs.Common.{◌≡◌, ℕ, zero, suc, ◌+◌, ◌-◌, ◌*◌, ◌/◌, ◌%◌, ◌<◌, ◌≤◌, Bool, cond, ◌&&◌, eqb, List, length, get_or, take, drop, sym, refl, ap, ◌∙◌, add-one, mul-le-mul_right, arith}
-use Rattle.std.proofs.lemmas.List.{get_or-take, get_or-drop, take_all}
-use Rattle.std.proofs.lemmas.List.FromFn.{length-range_with_len, get_or-range_with_len}
-use Rattle.std.proofs.lemmas.List.Filters.{length-filter_more}
-use Rattle.std.specs.List.{filter, range_with_len}
+use Rattle.std.proofs.Common.{◌≡◌, ℕ, zero, suc, ◌+◌, ◌-◌, ◌*◌, ◌/◌, ◌%◌, ◌<◌, ◌≤◌, cond, ◌&&◌, eqb, List, get_or, map, sum, take, drop, sym, refl, ap, ◌∙◌, add-one, mul-le-mul_right, arith}
+use Rattle.std.proofs.lemmas.List.{get_or-take, get_or-drop}
+use Rattle.std.proofs.lemmas.List.FromFn.{sum_by-map-range_with_len_more}
+use Rattle.std.specs.List.{range_with_len}
 use Rattle.frame_layout.specs.Layout.{frame_size, super_size, W1, own}
-use Rattle.frame_layout.specs.Marks.{stands, marked, whole_up_to}
+use Rattle.frame_layout.specs.Marks.{stands, marked, whole, whole_up_to}
 
 -- a byte of a part is the byte of the whole
 part_byte : (xs : List ℕ) (at n i j : ℕ) → i < n → at + i ≡ j → get_or (take n (drop at xs)) i 0 ≡ get_or xs j 0
@@ -38,28 +37,27 @@ whole_from slots stream place (suc n) h =
     ap (λ (k : ℕ). k + cond (marked (take (super_size slots) (drop place stream)) (0 + before * F) (own (suc n))) 1 0) (whole_from slots stream place n (omega arith))
     ∙ ap (λ b. whole_up_to slots stream place n + cond b 1 0) here
 
--- whether a frame, counted from 0, has its own mark
-abbrev pub has_mark : ℕ → List ℕ → ℕ → Bool
-has_mark slots frames n = marked frames (n * frame_size slots) (own (n + 1))
+-- 1 for a frame, counted from 0, that has its own mark
+abbrev pub mark_of : ℕ → List ℕ → ℕ → ℕ
+mark_of slots frames n = cond (marked frames (n * frame_size slots) (own (n + 1))) 1 0
+
+-- the frame after n others
+after_frames : (size n : ℕ) → n * size ≡ 0 + (suc n - 1) * size
+after_frames size n = let same : n * size ≡ (suc n - 1) * size = ap (λ (k : ℕ). k * size) (omega arith) in omega (arith, same)
 
 module _ (slots : ℕ) (frames : List ℕ) where
-  counted : (n : ℕ) → n ≤ 8 → length (filter (has_mark slots frames) (take n (range_with_len 0 8))) ≡ whole_up_to slots frames 0 n
-  unfolding whole_up_to
-  counted zero h = refl
-  counted (suc n) h =
-      let numbers = range_with_len 0 8 in
-      let F = frame_size slots in
-      let same : (0 + n) * F ≡ (suc n - 1) * F = ap (λ (k : ℕ). k * F) (omega arith) in
-      let place : (0 + n) * F ≡ 0 + (suc n - 1) * F = omega (arith, same) in
-      let own_is : has_mark slots frames (get_or numbers n 0) ≡ marked frames (0 + (suc n - 1) * F) (own (suc n)) =
-      ap (has_mark slots frames) (get_or-range_with_len 0 8 n 0 (omega arith))
-      ∙ (ap (λ (k : ℕ). marked frames k (own (0 + n + 1))) place
-      ∙ ap (λ (k : ℕ). marked frames (0 + (suc n - 1) * F) (own k)) (omega arith)) in
-      ap (λ (k : ℕ). length (filter (has_mark slots frames) (take k numbers))) (sym (add-one n))
-      ∙ (length-filter_more (has_mark slots frames) numbers n 0 (omega (arith, length-range_with_len 0 8))
-      ∙ (ap (λ (k : ℕ). k + cond (has_mark slots frames (get_or numbers n 0)) 1 0) (counted n (omega arith))
-      ∙ ap (λ b. whole_up_to slots frames 0 n + cond b 1 0) own_is))
+  -- the same frame, counted from 1
+  mark_there : (n : ℕ) → mark_of slots frames n ≡ cond (whole slots frames 0 (suc n)) 1 0
+  mark_there n =
+      ap (λ (k : ℕ). cond (marked frames k (own (n + 1))) 1 0) (after_frames (frame_size slots) n)
+      ∙ ap (λ (k : ℕ). cond (marked frames (0 + (suc n - 1) * frame_size slots) (own k)) 1 0) (add-one n)
 
-  -- how many of all frames have theirs
-  pub all_counted : length (filter (has_mark slots frames) (range_with_len 0 8)) ≡ whole_up_to slots frames 0 8
-  all_counted = ap (λ ns. length (filter (has_mark slots frames) ns)) (sym (take_all 8 (range_with_len 0 8) (omega (arith, length-range_with_len 0 8)))) ∙ counted 8 (omega arith)
+  -- how many of the first n frames have theirs
+  pub marks_summed : (n : ℕ) → sum (map (mark_of slots frames) (range_with_len 0 n)) ≡ whole_up_to slots frames 0 n
+  unfolding whole_up_to
+  marks_summed zero = refl
+  marks_summed (suc n) =
+      ap (λ (k : ℕ). sum (map (mark_of slots frames) (range_with_len 0 k))) (sym (add-one n))
+      ∙ (sum_by-map-range_with_len_more (λ (x : ℕ). x) (mark_of slots frames) 0 n n (omega arith)
+      ∙ (ap (λ (k : ℕ). k + mark_of slots frames n) (marks_summed n)
+      ∙ ap (λ (k : ℕ). whole_up_to slots frames 0 n + k) (mark_there n)))
